@@ -1,0 +1,36 @@
+-- Many tests at once, computed: a list of them, and one at every number below a bound. Assumes nothing.
+use Prim.Native.Nat.{_<_, suc, zero, ℕ}
+use lib.Dec.{T}
+use lib.Ieee.Fits.{and-l, and-r}
+use mathlib.Core.Bool.{Bool, _&&_, true}
+use mathlib.Core.List.{List, [], _∷_}
+use mathlib.Core.Logic.{inl, inr}
+use mathlib.Core.Path.{subst, sym}
+use native.Mathlib.Nat.{eq-or-lt-of-le, le-of-suc-le-suc}
+use native.Mathlib.Omega.{arith}
+
+-- ---- many tests at once
+abbrev pub allb : List Bool → Bool
+allb [] = true
+allb (c ∷ cs) = c && allb cs
+
+abbrev pub All : List Bool → Type 0
+All [] = Unit {0}
+All (c ∷ cs) = T c × All cs
+
+pub all→ : (cs : List Bool) → T (allb cs) → All cs
+all→ [] t = tt
+all→ (c ∷ cs) t = (and-l c (allb cs) t, all→ cs (and-r c (allb cs) t))
+
+-- one test at every number below n
+unfoldable pub everyBelow : (ℕ → Bool) → ℕ → Bool
+everyBelow t zero = true
+everyBelow t (suc n) = t n && everyBelow t n
+
+pub everyBelow→ : (t : ℕ → Bool) (n : ℕ) → T (everyBelow t n) → (j : ℕ) → j < n → T (t j)
+unfolding everyBelow
+everyBelow→ t zero h j l = absurd (none j l)
+  where
+    none : (j : ℕ) → j < 0 → ⊥
+    none j l = omega arith
+everyBelow→ t (suc n) h j l = elim (eq-or-lt-of-le (le-of-suc-le-suc l)) [ inl e ↦ subst (λ (k : ℕ). T (t k)) (sym e) (and-l (t n) (everyBelow t n) h) | inr k ↦ everyBelow→ t n (and-r (t n) (everyBelow t n) h) j k ]

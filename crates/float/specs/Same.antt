@@ -1,0 +1,21 @@
+-- Numbers compared as results are (01: "zeros alike, NaNs alike"), and their reflections. Definitions only.
+use Prim.Native.Nat.{suc, zero}
+use lib.Ieee.{Float, fin, inf, nan, neg}
+use mathlib.Core.Bool.{Bool, false, true}
+use mathlib.Core.Path.{_≡_}
+
+-- a number without the sign of a zero
+unfoldable pub num : Float → Float
+num nan = nan
+num (inf s) = inf s
+num (fin s zero e) = fin false zero e
+num (fin s (suc m) e) = fin s (suc m) e
+
+-- x, or -x by flipping its sign bit
+abbrev pub flip : Bool → Float → Float
+flip true x = neg x
+flip false x = x
+
+-- `Rel p x y`: y is the number x (p false) or -x (p true); two zeros are one number, and a NaN is only a NaN
+pub record Rel (p : Bool) (x y : Float) : Type 0 where
+  pub same : num y ≡ num (flip p x)

@@ -1,0 +1,122 @@
+//! Arguments for the elementary functions: the special numbers, the neighbours of every branch
+//! point, and seeded random ones.
+
+use crate::rng::Rng;
+
+/// Zeros, subnormals, ones, the largest, infinities and NaNs of either sign.
+pub const SPECIAL: [u32; 30] = [
+    0x0000_0000, 0x8000_0000, 0x0000_0001, 0x8000_0001, 0x0000_0002, 0x0040_0000, 0x8040_0000,
+    0x007F_FFFF, 0x807F_FFFF, 0x0080_0000, 0x8080_0000, 0x0080_0001, 0x3F80_0000, 0xBF80_0000,
+    0x3F00_0000, 0xBF00_0000, 0x4000_0000, 0xC000_0000, 0x7F7F_FFFF, 0xFF7F_FFFF, 0x7F80_0000,
+    0xFF80_0000, 0x7FC0_0000, 0xFFC0_0000, 0x7F80_0001, 0xFF80_0001, 0x7FFF_FFFF, 0xFFFF_FFFF,
+    0x7F00_0000, 0x3EAA_AAAB,
+];
+
+/// `x` and its `count` nearest neighbours on each side.
+pub fn near(x: f32, count: u32) -> Vec<f32> {
+    let mut all = vec![x];
+    let (mut down, mut up) = (x, x);
+    for _ in 0..count {
+        down = down.next_down();
+        up = up.next_up();
+        all.push(down);
+        all.push(up);
+    }
+    all
+}
+
+fn near_each(points: &[f32], count: u32) -> Vec<f32> {
+    points.iter().flat_map(|x| near(*x, count)).collect()
+}
+
+fn both_signs(points: &[f32]) -> Vec<f32> {
+    points.iter().flat_map(|x| [*x, -*x]).collect()
+}
+
+pub fn special() -> Vec<f32> {
+    SPECIAL.iter().map(|bits| f32::from_bits(*bits)).collect()
+}
+
+/// Odd and even powers of two, squares, and numbers whose root lies near a tie.
+pub fn for_sqrt() -> Vec<f32> {
+    let mut all = special();
+    for exponent in (-149..128).step_by(7) {
+        let power = 2f64.powi(exponent) as f32;
+        all.extend([power, power.next_down(), power.next_up()]);
+    }
+    for whole in [3.0f32, 5.0, 7.0, 4095.0, 4096.0, 4097.0, 8191.0] {
+        all.extend(near(whole * whole, 2));
+    }
+    all.extend(near_each(&[2.0, 1.0, 4.0, 0.25, 1.0e-40, 1.225], 3));
+    all
+}
+
+/// The limits -87 and 88, 0, and where k changes.
+pub fn for_exp() -> Vec<f32> {
+    let mut all = special();
+    all.extend(near_each(&[-87.0, 88.0, -60.0, 60.0, 0.0, 1.0, -1.0], 3));
+    for half in (-126..128).step_by(6) {
+        let point = (f64::from(half) - 0.5) * core::f64::consts::LN_2;
+        all.extend(near(point as f32, 1));
+    }
+    all.extend(near_each(&[-86.99, -87.3, 87.99, 88.7, 89.0, 127.0, -104.0], 1));
+    all
+}
+
+/// The size limit 4, the quarter turns and the odd eighths, both signs.
+pub fn for_sin_cos() -> Vec<f32> {
+    let mut all = special();
+    let eighth = core::f64::consts::FRAC_PI_4;
+    let points: Vec<f32> = (1..6).map(|n| (eighth * f64::from(n)) as f32).collect();
+    all.extend(near_each(&both_signs(&points), 3));
+    all.extend(near_each(&both_signs(&[4.0, 3.5, 1.0, 0.1, 1.0e-3, 1.0e-20]), 2));
+    all
+}
+
+/// 1 and its neighbours, 0, and where the tangent passes the branch, both signs.
+pub fn for_asin() -> Vec<f32> {
+    let mut all = special();
+    let points = [1.0, 0.38268343, 0.70710678, 0.92387953, 0.5, 1.0e-4, 0.99, 1.5, 1.0e-30];
+    all.extend(near_each(&both_signs(&points), 3));
+    all
+}
+
+/// Both arguments special, the diagonal, the branch at 0.41421356, and the axes.
+pub fn for_atan2() -> Vec<(f32, f32)> {
+    let mut all = Vec::new();
+    let few = [
+        0x0000_0000, 0x8000_0000, 0x0000_0001, 0x8000_0001, 0x3F80_0000, 0xBF80_0000, 0x7F7F_FFFF,
+        0xFF7F_FFFF, 0x7F80_0000, 0xFF80_0000, 0x7FC0_0000, 0xFF80_0001,
+    ];
+    for y in few {
+        for x in few {
+            all.push((f32::from_bits(y), f32::from_bits(x)));
+        }
+    }
+    for signs in [(1.0f32, 1.0f32), (1.0, -1.0), (-1.0, 1.0), (-1.0, -1.0)] {
+        for size in near_each(&[0.41421356, 1.0, 0.5, 1.0e-3, 3.0e-39], 3) {
+            all.push((signs.0 * size, signs.1));
+            all.push((signs.0, signs.1 * size));
+        }
+    }
+    all
+}
+
+/// One random number: any bits, a size near one, or within `limit`.
+pub fn random(rng: &mut Rng, limit: f32) -> f32 {
+    match rng.below(4) {
+        0 => rng.bits(),
+        1 => rng.scaled(-12, 8),
+        2 => rng.scaled(-126, 127),
+        _ => rng.between(-limit, limit),
+    }
+}
+
+/// A random pair; every other one of like size.
+pub fn random_pair(rng: &mut Rng) -> (f32, f32) {
+    let y = random(rng, 200.0);
+    if rng.once_in(2) {
+        return (y, random(rng, 200.0));
+    }
+    (y, y * rng.scaled(-3, 3))
+}

@@ -1,0 +1,29 @@
+//! The oracle: the original Rust files, unchanged, with document 01's stand-ins, and over them
+//! a second reading of 01's blocks, refusals, tick, run and fly.
+
+// The originals offer more than the tick calls.
+#![allow(dead_code)]
+
+// The originals.
+mod aero;
+mod body;
+mod fixed_wing;
+mod lag;
+mod motors;
+mod surfaces;
+mod tailsitter_model;
+mod wing;
+
+// What they name from files that are not here.
+mod delay;
+mod ground;
+mod lockstep;
+mod model;
+mod perturbations;
+mod quadplane_model;
+
+// The lists and the comparison.
+pub mod arguments;
+pub mod lists;
+pub mod rng;
+pub mod words;
