@@ -22,8 +22,16 @@ mod model;
 mod perturbations;
 mod quadplane_model;
 
-// The lists and the comparison.
+// Document 01, read a second time.
+pub mod blocks;
+pub mod fly;
+pub mod hand;
+pub mod limits;
+pub mod tick;
+
+// Inputs, lists and the comparison.
 pub mod arguments;
+pub mod inputs;
 pub mod lists;
 pub mod rng;
 pub mod words;

@@ -1,28 +1,71 @@
 //! The oracle's commands; see differential/README.md.
 
+use std::io::{self, Read, Write};
 use std::path::Path;
 use std::process::ExitCode;
 
-const USAGE: &str = "usage: oracle lists FOLDER";
+const USAGE: &str = "usage: oracle fly < input
+       oracle hand
+       oracle lists FOLDER
+       oracle inputs SEED N
+       oracle flights SEED N";
 
 fn main() -> ExitCode {
     let arguments: Vec<String> = std::env::args().skip(1).collect();
     let arguments: Vec<&str> = arguments.iter().map(String::as_str).collect();
-    match arguments.as_slice() {
-        ["lists", folder] => lists(folder),
-        _ => {
-            eprintln!("{USAGE}");
+    let done = match arguments.as_slice() {
+        ["fly"] => fly(),
+        ["hand"] => return hand(),
+        ["lists", folder] => oracle::lists::write_all(Path::new(folder)),
+        [what @ ("inputs" | "flights"), seed, n] => match (seed.parse(), n.parse()) {
+            (Ok(seed), Ok(n)) => inputs(seed, n, *what == "flights"),
+            _ => return usage(),
+        },
+        _ => return usage(),
+    };
+    match done {
+        Ok(()) => ExitCode::SUCCESS,
+        Err(error) => {
+            eprintln!("oracle: {error}");
             ExitCode::FAILURE
         }
     }
 }
 
-fn lists(folder: &str) -> ExitCode {
-    match oracle::lists::write_all(Path::new(folder)) {
-        Ok(()) => ExitCode::SUCCESS,
-        Err(error) => {
-            eprintln!("oracle: cannot write the lists into {folder}: {error}");
-            ExitCode::FAILURE
+fn usage() -> ExitCode {
+    eprintln!("{USAGE}");
+    ExitCode::FAILURE
+}
+
+/// Document 01's fly.
+fn fly() -> io::Result<()> {
+    let mut input = Vec::new();
+    io::stdin().read_to_end(&mut input)?;
+    let mut out = io::BufWriter::new(io::stdout().lock());
+    for line in oracle::fly::fly(&input) {
+        writeln!(out, "{line}")?;
+    }
+    out.flush()
+}
+
+fn hand() -> ExitCode {
+    if oracle::hand::check() {
+        ExitCode::SUCCESS
+    } else {
+        ExitCode::FAILURE
+    }
+}
+
+/// Inputs of fly from a seed, one a line, in hex; or as the list of flights, with their lines.
+fn inputs(seed: u64, n: u64, flown: bool) -> io::Result<()> {
+    let mut out = io::BufWriter::new(io::stdout().lock());
+    for index in 0..n {
+        let input = oracle::inputs::input(seed, index);
+        if flown {
+            write!(out, "{}", oracle::lists::flights::one(&input))?;
+        } else {
+            writeln!(out, "{}", oracle::words::hex(&input))?;
         }
     }
+    out.flush()
 }

@@ -28,3 +28,8 @@ pub fn case(inputs: &[f32], answers: &[f32]) -> String {
     let answers: Vec<String> = answers.iter().map(|x| answer(*x)).collect();
     format!("{} > {}", inputs.join(" "), answers.join(" "))
 }
+
+/// Bytes in hex, without spaces.
+pub fn hex(bytes: &[u8]) -> String {
+    bytes.iter().map(|byte| format!("{byte:02X}")).collect()
+}

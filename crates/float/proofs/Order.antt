@@ -247,3 +247,14 @@ unfolding ne isNan
 same-number nan p = p
 same-number (inf s) p = tt
 same-number (fin s m e) p = tt
+
+-- ---- `le` and `lt` in a row, on finite values
+by-contra : (b : Bool) → (T (not b) → ⊥) → T b
+by-contra true h = tt
+by-contra false h = h tt
+
+pub le-lt : (x y z : Float) → T (finite x) → T (finite y) → T (finite z) → T (le x y) → T (lt y z) → T (lt x z)
+le-lt x y z p q r h k = by-contra (lt x z) (λ n. T-not (lt y z) (le→not-lt y z q r (le-trans-float z x y (not-lt→le x z (finite-number x p) (finite-number z r) n) h)) k)
+
+pub lt-le : (x y z : Float) → T (finite x) → T (finite y) → T (finite z) → T (lt x y) → T (le y z) → T (lt x z)
+lt-le x y z p q r h k = by-contra (lt x z) (λ n. T-not (lt x y) (le→not-lt x y p q (le-trans-float y z x k (not-lt→le x z (finite-number x p) (finite-number z r) n))) h)

@@ -3,7 +3,7 @@ use Prim.Native.Nat.{_%_, _*_, _+_, _-_, _/_, _<_, _≤_, suc, zero, ℕ}
 use lib.Arith.{le→nltb, lt→nleb}
 use lib.Count.{trailingZeros}
 use lib.Dec.{T, eqb, eqb→eq, leb, leb→le, le→leb, lt→ltb, nleb→lt, not-T}
-use lib.Ieee.{Float, binary32, div, fin, inf, isNan, minus, nan, nanBits, ne, odd, ofBits, ofFields}
+use lib.Ieee.{Float, binary32, binary64, div, fin, inf, isNan, minus, nan, nanBits, ne, odd, ofBits, ofFields}
 use lib.Ieee.Bits.{cond-no, is-false, is-true, nanBits-above, nanBits-is}
 use lib.IntN.{negsuc, pos, ℤ}
 use mathlib.Core.Bool.{Bool, cond, false, not, true}
@@ -19,6 +19,9 @@ ofBits-is b = refl
 
 pub not-nan-pattern : (b : ℕ) → b % 2147483648 ≤ 2139095040 → T (not (nanBits binary32 b))
 not-nan-pattern b h = subst (λ (t : Bool). T (not t)) (sym (nanBits-above binary32 b)) (le→nltb 2139095040 (b % 2147483648) h)
+
+pub not-nan-pattern64 : (b : ℕ) → b % 9223372036854775808 ≤ 9218868437227405312 → T (not (nanBits binary64 b))
+not-nan-pattern64 b h = subst (λ (t : Bool). T (not t)) (sym (nanBits-above binary64 b)) (le→nltb 9218868437227405312 (b % 9223372036854775808) h)
 
 nan-is : (x : Float) → T (isNan x) → x ≡ nan
 unfolding isNan

@@ -9,6 +9,7 @@ ghost use lib.Ieee as Ieee;
 ghost use lib.Ieee.{fin, binary32};
 ghost use Rattle.float.specs.Bytes.{word, put};
 ghost use Rattle.float.specs.Whole.{wholePart};
+ghost use Rattle.float.specs.Notation as Notation;
 
 // The float with these bits; any NaN's bits give a NaN.
 pub fn from_bits(b: u32) -> f32
@@ -98,4 +99,31 @@ pub fn power_of_two(k: i64) -> f32
     ensures { λ r. ⌜ r ≡ fin false 1 k ⌝ }
 {
     biased_power((k + 127) as u32)
+}
+
+// The size of x, |x|.
+pub fn size(x: f32) -> f32
+    ensures { λ r. ⌜ r ≡ Notation.sizeOf x ⌝ }
+{
+    if x < 0.0 { -x } else { x }
+}
+
+// x where it is above 0, else +0, also for a NaN.
+pub fn at_least_zero(x: f32) -> f32
+    ensures { λ r. ⌜ r ≡ Notation.atLeastZero x ⌝ }
+{
+    if x > 0.0 { x } else { 0.0 }
+}
+
+// x brought into lo..hi; a NaN stays.
+pub fn clamp(x: f32, lo: f32, hi: f32) -> f32
+    ensures { λ r. ⌜ r ≡ Notation.clamp lo hi x ⌝ }
+{
+    if x < lo {
+        return lo;
+    }
+    if hi < x {
+        return hi;
+    }
+    x
 }

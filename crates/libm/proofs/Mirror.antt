@@ -1,0 +1,1 @@
+-- What the functions do to a reflection: to the same number, and to the opposite one. Assumes nothing.

@@ -1,0 +1,136 @@
+//! The elementary functions: document 01's formulas against the static library's.
+
+use std::fs;
+use std::path::{Path, PathBuf};
+
+use oracle::arguments;
+use oracle::rng::Rng;
+use oracle::words::{answer, case, same};
+
+use crate::Found;
+use crate::progress::Progress;
+use crate::shrink;
+
+unsafe extern "C" {
+    safe fn bench_sqrtf(x: f32) -> f32;
+    safe fn bench_expf(x: f32) -> f32;
+    safe fn bench_sinf(x: f32) -> f32;
+    safe fn bench_cosf(x: f32) -> f32;
+    safe fn bench_asinf(s: f32) -> f32;
+    safe fn bench_atan2f(y: f32, x: f32) -> f32;
+}
+
+/// One function on both sides, and its arguments: fixed ones first, then random ones.
+struct Function {
+    name: &'static str,
+    oracle: fn(&[f32]) -> f32,
+    bench: fn(&[f32]) -> f32,
+    fixed: fn() -> Vec<Vec<f32>>,
+    random: fn(&mut Rng) -> Vec<f32>,
+}
+
+fn each(all: Vec<f32>) -> Vec<Vec<f32>> {
+    all.into_iter().map(|x| vec![x]).collect()
+}
+
+const FUNCTIONS: [Function; 6] = [
+    Function {
+        name: "sqrtf",
+        oracle: |x| libm::sqrtf(x[0]),
+        bench: |x| bench_sqrtf(x[0]),
+        fixed: || each(arguments::for_sqrt()),
+        random: |rng| vec![arguments::random(rng, 1000.0)],
+    },
+    Function {
+        name: "expf",
+        oracle: |x| libm::expf(x[0]),
+        bench: |x| bench_expf(x[0]),
+        fixed: || each(arguments::for_exp()),
+        random: |rng| vec![arguments::random(rng, 90.0)],
+    },
+    Function {
+        name: "sinf",
+        oracle: |x| libm::sinf(x[0]),
+        bench: |x| bench_sinf(x[0]),
+        fixed: || each(arguments::for_sin_cos()),
+        random: |rng| vec![arguments::random(rng, 4.0)],
+    },
+    Function {
+        name: "cosf",
+        oracle: |x| libm::cosf(x[0]),
+        bench: |x| bench_cosf(x[0]),
+        fixed: || each(arguments::for_sin_cos()),
+        random: |rng| vec![arguments::random(rng, 4.0)],
+    },
+    Function {
+        name: "asinf",
+        oracle: |x| libm::asinf(x[0]),
+        bench: |x| bench_asinf(x[0]),
+        fixed: || each(arguments::for_asin()),
+        random: |rng| vec![arguments::random(rng, 1.0)],
+    },
+    Function {
+        name: "atan2f",
+        oracle: |x| libm::atan2f(x[0], x[1]),
+        bench: |x| bench_atan2f(x[0], x[1]),
+        fixed: || pairs(arguments::for_atan2()),
+        random: |rng| pair(arguments::random_pair(rng)),
+    },
+];
+
+fn pair(of: (f32, f32)) -> Vec<f32> {
+    vec![of.0, of.1]
+}
+
+fn pairs(all: Vec<(f32, f32)>) -> Vec<Vec<f32>> {
+    all.into_iter().map(pair).collect()
+}
+
+/// `n` random arguments for each function, after its fixed ones.
+pub fn compare(n: u64, seed: u64, folder: &Path) -> Found {
+    let mut found = Found::default();
+    for function in &FUNCTIONS {
+        let one = compare_one(function, n, seed, folder);
+        println!("{}: {} cases, {} differ", function.name, one.cases, one.differing);
+        found.add(one);
+    }
+    found
+}
+
+fn compare_one(function: &Function, n: u64, seed: u64, folder: &Path) -> Found {
+    let mut rng = Rng::new(seed);
+    let random = (0..n).map(|_| (function.random)(&mut rng));
+    let mut progress = Progress::new(function.name, n);
+    let mut found = Found::default();
+    let mut first = None;
+    for x in (function.fixed)().into_iter().chain(random) {
+        found.cases += 1;
+        if differs(function, &x) {
+            found.differing += 1;
+            first.get_or_insert(x);
+        }
+        progress.at(found.cases, found.differing);
+    }
+    found.files.extend(first.map(|x| write(function, x, folder)));
+    found
+}
+
+fn differs(function: &Function, x: &[f32]) -> bool {
+    !same((function.oracle)(x), (function.bench)(x))
+}
+
+/// Writes the smallest argument found as a list of one case.
+fn write(function: &Function, x: Vec<f32>, folder: &Path) -> PathBuf {
+    let x = shrink::numbers(x, |x| differs(function, x));
+    let file = folder.join(format!("difference-{}.txt", function.name));
+    let bench = answer((function.bench)(&x));
+    let name = function.name;
+    let text = format!(
+        "# {name}: arguments > the oracle's answer; the library answers {bench}\n{}\n",
+        case(&x, &[(function.oracle)(&x)])
+    );
+    if let Err(error) = fs::write(&file, text) {
+        eprintln!("compare: cannot write {}: {error}", file.display());
+    }
+    file
+}

@@ -1,0 +1,55 @@
+//! Compares the oracle with the Rattle side: `compare N SEED FOLDER`. One module for each thing
+//! compared; a difference is written, as small as it can be made, into FOLDER.
+
+mod functions;
+mod progress;
+mod shrink;
+
+use std::path::{Path, PathBuf};
+use std::process::ExitCode;
+
+/// What a comparison found: how many cases it ran and the files of its differences.
+#[derive(Default)]
+pub struct Found {
+    pub cases: u64,
+    pub differing: u64,
+    pub files: Vec<PathBuf>,
+}
+
+impl Found {
+    fn add(&mut self, other: Found) {
+        self.cases += other.cases;
+        self.differing += other.differing;
+        self.files.extend(other.files);
+    }
+}
+
+fn main() -> ExitCode {
+    let arguments: Vec<String> = std::env::args().skip(1).collect();
+    let Some((n, seed, folder)) = read(&arguments) else {
+        eprintln!("usage: compare N SEED FOLDER");
+        return ExitCode::FAILURE;
+    };
+    let mut found = Found::default();
+    found.add(functions::compare(n, seed, folder));
+    report(&found)
+}
+
+fn read(arguments: &[String]) -> Option<(u64, u64, &Path)> {
+    let [n, seed, folder] = arguments else {
+        return None;
+    };
+    Some((n.parse().ok()?, seed.parse().ok()?, Path::new(folder)))
+}
+
+fn report(found: &Found) -> ExitCode {
+    println!("{} cases compared, {} differ", found.cases, found.differing);
+    for file in &found.files {
+        println!("smallest differing input: {}", file.display());
+    }
+    if found.differing == 0 {
+        ExitCode::SUCCESS
+    } else {
+        ExitCode::FAILURE
+    }
+}

@@ -1,0 +1,295 @@
+//! Document 01's cases: "Flown by hand" and the examples of "What the bench replies".
+
+use core::hint::black_box;
+
+use stable_flight::Vec3;
+use stable_flight::mixers::{MixRow, Slot};
+
+use crate::aero;
+use crate::blocks::{Airframe, Refusal, State, Tick, mix, read_airframe, read_state, write_state};
+use crate::fly::fly;
+use crate::inputs::{AirframeBlock, Row, state_bytes};
+use crate::lag;
+use crate::limits;
+use crate::tick::{self, Report, falloff, model, run};
+use crate::words::same;
+
+/// A case: what it says and whether it holds.
+type Case = (&'static str, bool);
+
+/// Prints a line for each case and the count; true if all hold.
+pub fn check() -> bool {
+    let cases: Vec<Case> = [lags(), shares(), functions(), rows(), replies(), ticks(), flights()]
+        .concat();
+    for (says, holds) in &cases {
+        println!("{} {says}", if *holds { "ok  " } else { "FAIL" });
+    }
+    let held = cases.iter().filter(|(_, holds)| *holds).count();
+    println!("{held} of {} cases hold", cases.len());
+    held == cases.len()
+}
+
+fn approach(value: f32, command: f32, low: f32, alpha: f32) -> f32 {
+    let mut value = value;
+    lag::approach_saturated(&mut value, command, &(low..=1.0), 0.0, alpha);
+    value
+}
+
+fn lags() -> Vec<Case> {
+    vec![
+        ("approach 0 to 1, factor 0.5: 0.5", approach(0.0, 1.0, 0.0, 0.5) == 0.5),
+        ("NaN command, running 0.5, factor 0.5: 0.25", approach(0.5, f32::NAN, 0.0, 0.5) == 0.25),
+        ("+infinity, running 1: 1", approach(1.0, f32::INFINITY, 0.0, 0.5) == 1.0),
+        ("servo -7, running 0, factor 1: -1", approach(0.0, -7.0, -1.0, 1.0) == -1.0),
+    ]
+}
+
+/// A plain airframe in range: ones, and what the places want.
+pub fn plain() -> AirframeBlock {
+    let mut numbers = [1.0; 41];
+    numbers[7..30].fill(0.0);
+    numbers[10] = 50.0;
+    numbers[12] = 0.9;
+    numbers[35] = 2.0;
+    numbers[36] = 0.0;
+    numbers[37] = 0.0;
+    AirframeBlock {
+        pitch_speed: false,
+        numbers,
+        wash: None,
+        rows: Vec::new(),
+    }
+}
+
+fn airframe_of(block: &AirframeBlock) -> Airframe {
+    read_airframe(&block.bytes()).unwrap_or(Airframe::zero())
+}
+
+fn share(share: f32, speed: f32) -> f32 {
+    let mut model = model(&airframe_of(&plain()));
+    model.thrust_falloff = falloff(true, 20.0);
+    model.falloff_share(black_box(share), black_box(speed))
+}
+
+fn shares() -> Vec<Case> {
+    vec![
+        ("PitchSpeed 20, share 0.25, speed 5: 0.5", share(0.25, 5.0) == 0.5),
+        ("PitchSpeed 20, speed NaN: 1", share(0.25, f32::NAN) == 1.0),
+        ("PitchSpeed 20, share 0, speed 5: 0", share(0.0, 5.0) == 0.0),
+        ("PitchSpeed 20, share -0, speed 5: 0", share(-0.0, 5.0) == 0.0),
+        ("sharpness 0: blend 0.75", blend_without_sharpness() == 0.75),
+        ("thrust 0.6125, disc 1, sink loss 0.5, axial -1: added 0", added() == 0.0),
+    ]
+}
+
+fn blend_without_sharpness() -> f32 {
+    let mut block = plain();
+    block.numbers[10] = 0.0;
+    aero::stall_blend(&model(&airframe_of(&block)).aero, 0.3)
+}
+
+fn added() -> f32 {
+    tick::wash([1.0, 0.0, 0.0, 0.0, 0.0, 0.5, 0.0]).added(0.6125, -1.0)
+}
+
+fn functions() -> Vec<Case> {
+    let atan2 = libm::atan2f(-0.0, -1.0);
+    vec![
+        ("atan2(-0, -1) = 40490FDB", atan2.to_bits() == 0x4049_0FDB),
+        ("sqrt(2) = 3FB504F3", libm::sqrtf(2.0).to_bits() == 0x3FB5_04F3),
+    ]
+}
+
+fn one_servo() -> Airframe {
+    let mut airframe = airframe_of(&plain());
+    mix(&mut airframe, &[MixRow::new(Slot::Servo(3), [0.5, 0.0, 0.0])]);
+    airframe
+}
+
+fn twice() -> Airframe {
+    let first = MixRow::new(Slot::Motor(2), [1.0, 0.5, 0.25]);
+    let later = MixRow::new(Slot::Motor(2), [0.0, -1.0, 2.0]);
+    let mut airframe = airframe_of(&plain());
+    airframe.numbers[39] = 0.5;
+    airframe.numbers[40] = 0.25;
+    mix(&mut airframe, &[first, later]);
+    airframe
+}
+
+fn rows() -> Vec<Case> {
+    let weights = one_servo().weights;
+    let later = twice().torques[2];
+    vec![
+        ("one servo, factor 0.5: weight 2", weights[3] == Vec3::new(2.0, 0.0, 0.0)),
+        ("a later row of the same slot wins", later == Vec3::new(0.0, -0.5, 0.5)),
+    ]
+}
+
+fn reads(bytes: &[u8], number: u8, place: u8) -> bool {
+    let refusal = read_airframe(bytes).err().unwrap_or(Refusal::of(0));
+    refusal == Refusal { number, place }
+}
+
+/// The plain block with its first two bytes replaced.
+fn headed(first: u8, second: u8) -> Vec<u8> {
+    let mut bytes = plain().bytes();
+    bytes[0] = first;
+    bytes[1] = second;
+    bytes
+}
+
+fn with_rows(count: usize) -> Vec<u8> {
+    let row = Row {
+        servo: false,
+        slot: 0,
+        factors: [0.0; 3],
+    };
+    let mut block = plain();
+    block.rows = vec![row; count];
+    block.bytes()
+}
+
+fn replies() -> Vec<Case> {
+    let mut no_mass = plain();
+    no_mass.numbers[0] = f32::NAN;
+    let mut row_bit = with_rows(1);
+    row_bit[166] = 1;
+    let still = state_bytes(&at_rest());
+    let short = read_state(&still[..115]) == Err(Refusal::of(limits::LENGTH));
+    let mut lent = [7; 115];
+    let unwritten = write_state(&at_rest(), &mut lent).is_err() && lent == [7; 115];
+    let fast = State {
+        rates: [0.0, 101.0, 0.0],
+        ..at_rest()
+    };
+    let outside = read_state(&state_bytes(&fast)) == Err(Refusal::of(limits::STATE));
+    vec![
+        ("a 166-byte airframe block in range: 0", reads(&plain().bytes(), 0, 0)),
+        ("a state block of 115 bytes: 1", short),
+        ("first byte 20 hex: 2", reads(&headed(0x20, 0), 2, 0)),
+        ("first byte 18 hex: 3", reads(&headed(0x18, 0), 3, 0)),
+        ("second byte 20 hex: 4", reads(&headed(0x10, 0x20), 4, 0)),
+        ("first byte 11 hex: 4", reads(&headed(0x11, 0), 4, 0)),
+        ("a reserved bit in a row: 4", reads(&row_bit, 4, 0)),
+        ("second byte 11 hex: 5", reads(&headed(0x10, 0x11), 5, 0)),
+        ("mass NaN: 6, place 1", reads(&no_mass.bytes(), 6, 1)),
+        ("rate 101 rad/s: 7", outside),
+        ("1 byte: 1", reads(&[0x20], 1, 0)),
+        ("a 167-byte airframe block: 1", reads(&[&plain().bytes()[..], &[0]].concat(), 1, 0)),
+        ("16 rows pass", reads(&with_rows(16), 0, 0)),
+        ("17 rows get 5", reads(&with_rows(17), 5, 0)),
+        ("115 bytes lent for a state: left as found", unwritten),
+    ]
+}
+
+/// At the origin, level, nose north, motors stopped and servos centered.
+pub fn at_rest() -> State {
+    State {
+        attitude: [1.0, 0.0, 0.0, 0.0],
+        ..State::zero()
+    }
+}
+
+fn still(step: f32) -> Tick {
+    Tick {
+        step,
+        wind: [0.0; 3],
+        motors: [0.0; 8],
+        servos: [0.0; 8],
+    }
+}
+
+fn answered(airframe: &Airframe, state: &State, tick: &Tick, answer: u8, place: u8) -> bool {
+    let (report, next) = tick::tick(airframe, state, tick);
+    let kept = answer == 0 || next == *state;
+    report == (Report { answer, place, ..report }) && kept
+}
+
+/// 9's example: the position leaves the envelope though nothing accelerates it north.
+fn departs() -> bool {
+    let far = State {
+        position: [1_000_000.0, 0.0, 0.0],
+        velocity: [150.0, 0.0, 0.0],
+        ..at_rest()
+    };
+    let tick = Tick {
+        wind: [150.0, 0.0, 0.0],
+        ..still(1.0 / 64.0)
+    };
+    answered(&airframe_of(&plain()), &far, &tick, 9, 0)
+}
+
+fn unused_motor_stays() -> bool {
+    let running = State {
+        motors: [0.5; 8],
+        ..at_rest()
+    };
+    let full = Tick {
+        motors: [1.0; 8],
+        ..still(0.02)
+    };
+    let (report, next) = tick::tick(&airframe_of(&plain()), &running, &full);
+    report.answer == 0 && next.motors == [0.5; 8] && same(report.thrust, 2.0)
+}
+
+fn ticks() -> Vec<Case> {
+    let airframe = airframe_of(&plain());
+    let rest = at_rest();
+    let fast = State {
+        rates: [0.0, 0.0, 101.0],
+        ..rest
+    };
+    let mut torque = airframe.clone();
+    torque.torques[7].z = 100.5;
+    let mut weight = airframe.clone();
+    weight.weights[0].x = 101.5;
+    let short_run = run(&airframe, &rest, &[0; 79]) == (1, rest, 0);
+    let empty_run = run(&airframe, &rest, &[]) == (0, rest, 0);
+    vec![
+        ("step 0.02 passes", answered(&airframe, &rest, &still(0.02), 0, 0)),
+        ("step 0.0201 gets 8", answered(&airframe, &rest, &still(0.0201), 8, 0)),
+        ("step 0 gets 8", answered(&airframe, &rest, &still(0.0), 8, 0)),
+        ("a tick from a state at 101 rad/s gets 7", answered(&airframe, &fast, &still(0.0), 7, 0)),
+        ("the zero airframe's tick gets 6", answered(&Airframe::zero(), &fast, &still(0.0), 6, 1)),
+        ("a hand-made torque of 100.5: 6, place 50", answered(&torque, &rest, &still(0.02), 6, 50)),
+        ("a hand-made weight of 101.5: 6, place 51", answered(&weight, &rest, &still(0.02), 6, 51)),
+        ("position 1,000,000 m north at 150 m/s: 9", departs()),
+        ("an unused motor keeps its running value and pulls", unused_motor_stays()),
+        ("a trace of 79 bytes: 1", short_run),
+        ("an empty trace: 0, the start, no tick", empty_run),
+    ]
+}
+
+/// The fall of two ticks, as printed in document 01.
+const FALL: [&str; 2] = [
+    "1 0 00000000 00000000 3B1CE80A 00000000 00000000 3E1CE80A 3F800000 00000000 00000000 \
+     00000000 00000000 00000000 00000000",
+    "2 0 00000000 00000000 3BEB5C0F 00000000 00000000 3E9CE80A 3F800000 00000000 00000000 \
+     00000000 00000000 00000000 00000000",
+];
+
+/// The fall's input: no rows, no wash, two ticks of 1/64 s in a wind of NaN.
+pub fn fall() -> Vec<u8> {
+    let mut bytes = plain().bytes();
+    bytes.extend(state_bytes(&at_rest()));
+    for _ in 0..2 {
+        bytes.extend((1.0f32 / 64.0).to_be_bytes());
+        bytes.extend(f32::NAN.to_be_bytes().repeat(3));
+        bytes.extend([0; 64]);
+    }
+    bytes
+}
+
+fn flights() -> Vec<Case> {
+    let fall = fall();
+    let short = &fall[..fall.len() - 1];
+    vec![
+        ("fly's fall of two ticks", fly(&fall) == FALL),
+        ("a byte short of the second tick", fly(short) == [FALL[0], "0 1 0"]),
+        ("fly of nothing", fly(&[]) == ["0 1 0"]),
+        ("fly of a bad header alone", fly(&[0x20, 0]) == ["0 2 0"]),
+        ("fly of a short airframe", fly(&fall[..165]) == ["0 1 0"]),
+        ("fly of a short state", fly(&fall[..281]) == ["0 1 0"]),
+        ("fly without ticks", fly(&fall[..282]).is_empty()),
+    ]
+}

@@ -1,0 +1,511 @@
+//! Inputs of fly from a seed: airframes, states and ticks, plausible ones, ones at every limit,
+//! and damaged blocks.
+
+use crate::arguments::SPECIAL;
+use crate::blocks::{AIRFRAME_NUMBERS, SLOTS, State, WASH_NUMBERS, write_state};
+use crate::limits::{self, Range};
+use crate::rng::Rng;
+
+/// A mixer row before it is packed.
+#[derive(Debug, Clone, Copy)]
+pub struct Row {
+    pub servo: bool,
+    pub slot: u8,
+    pub factors: [f32; 3],
+}
+
+/// An airframe block before it is packed.
+#[derive(Debug, Clone)]
+pub struct AirframeBlock {
+    pub pitch_speed: bool,
+    pub numbers: [f32; AIRFRAME_NUMBERS],
+    pub wash: Option<[f32; WASH_NUMBERS]>,
+    pub rows: Vec<Row>,
+}
+
+impl AirframeBlock {
+    pub fn bytes(&self) -> Vec<u8> {
+        let header = 1 << 12
+            | u16::from(self.pitch_speed) << 10
+            | u16::from(self.wash.is_some()) << 9
+            | self.rows.len() as u16;
+        let mut bytes = header.to_be_bytes().to_vec();
+        push(&mut bytes, &self.numbers);
+        push(&mut bytes, &self.wash.unwrap_or_default()[..self.wash_count()]);
+        for row in &self.rows {
+            bytes.push(u8::from(row.servo) << 7 | row.slot << 4);
+            push(&mut bytes, &row.factors);
+        }
+        bytes
+    }
+
+    fn wash_count(&self) -> usize {
+        self.wash.map_or(0, |wash| wash.len())
+    }
+}
+
+pub fn push(bytes: &mut Vec<u8>, numbers: &[f32]) {
+    for number in numbers {
+        bytes.extend(number.to_be_bytes());
+    }
+}
+
+pub fn state_bytes(state: &State) -> Vec<u8> {
+    let mut bytes = vec![0; crate::blocks::STATE_BYTES];
+    // 116 bytes are lent, so the write is never refused.
+    let _ = write_state(state, &mut bytes);
+    bytes
+}
+
+/// Plausible ranges of the 41 airframe numbers, a small survey aeroplane's.
+const PLAUSIBLE: [Range; AIRFRAME_NUMBERS] = [
+    (0.5, 20.0),
+    (0.02, 2.0),
+    (0.02, 2.0),
+    (0.03, 3.0),
+    (0.2, 2.0),
+    (1.0, 4.0),
+    (0.15, 0.6),
+    (0.0, 0.5),
+    (3.0, 6.0),
+    (0.15, 0.6),
+    (5.0, 80.0),
+    (0.02, 0.1),
+    (0.6, 1.0),
+    (-1.0, -0.2),
+    (-0.3, 0.3),
+    (-0.2, 0.05),
+    (-0.7, -0.2),
+    (0.0, 0.3),
+    (0.05, 0.3),
+    (-0.05, 0.05),
+    (-0.05, 0.1),
+    (-2.8, -0.1),
+    (0.0, 1.0),
+    (-15.0, -2.0),
+    (-1.2, 1.2),
+    (0.0, 1.0),
+    (0.03, 0.25),
+    (-0.1, 0.02),
+    (-0.3, -0.05),
+    (-0.15, 0.15),
+    (0.2, 0.8),
+    (0.2, 0.8),
+    (0.2, 0.8),
+    (0.02, 0.3),
+    (3.0, 60.0),
+    (2.0, 2.0),
+    (0.0, 0.6),
+    (-0.1, 0.1),
+    (0.02, 0.4),
+    (0.0, 0.6),
+    (-0.1, 0.1),
+];
+
+/// Plausible ranges of a tailsitter's wash numbers.
+const PLAUSIBLE_WASH: [Range; WASH_NUMBERS] = [
+    (0.03, 0.5),
+    (0.2, 1.0),
+    (0.1, 1.0),
+    (-0.4, 0.4),
+    (-3.0, 3.0),
+    (0.5, 2.0),
+    (0.0, 0.5),
+];
+
+/// A number anywhere in `range`, at its limits, or special ones inside it.
+fn anywhere(rng: &mut Rng, range: Range) -> f32 {
+    let number = match rng.below(6) {
+        0 => range.0,
+        1 => range.1,
+        2 => f32::from_bits(rng.pick(&SPECIAL)),
+        3 => rng.scaled(-20, 4),
+        _ => rng.between(range.0, range.1),
+    };
+    if limits::within(number, range) {
+        number
+    } else {
+        rng.between(range.0, range.1)
+    }
+}
+
+fn factor(rng: &mut Rng) -> f32 {
+    match rng.below(8) {
+        0 | 1 => 0.0,
+        2 => -0.0,
+        3 => rng.pick(&[0.01, 10.0, -0.01, -10.0]),
+        4 => rng.pick(&[1.0, -1.0, 0.5, -0.5]),
+        _ => rng.between(0.01, 2.0) * rng.pick(&[1.0, -1.0]),
+    }
+}
+
+pub fn row(rng: &mut Rng) -> Row {
+    Row {
+        servo: rng.once_in(2),
+        slot: rng.below(SLOTS) as u8,
+        factors: [factor(rng), factor(rng), factor(rng)].map(keep_small),
+    }
+}
+
+/// A random size between 0 and 0.01 is no row factor.
+fn keep_small(factor: f32) -> f32 {
+    if limits::row_factor(factor) { factor } else { 0.01 }
+}
+
+const fn motor(slot: u8, factors: [f32; 3]) -> Row {
+    Row {
+        servo: false,
+        slot,
+        factors,
+    }
+}
+
+const fn servo(slot: u8, factors: [f32; 3]) -> Row {
+    Row {
+        servo: true,
+        slot,
+        factors,
+    }
+}
+
+/// One prop, ailerons, elevator, rudder.
+const PLANE: [Row; 5] = [
+    motor(0, [0.0, 0.0, 0.0]),
+    servo(0, [1.0, 0.0, 0.0]),
+    servo(1, [-1.0, 0.0, 0.0]),
+    servo(2, [0.0, 1.0, 0.0]),
+    servo(3, [0.0, 0.0, 1.0]),
+];
+
+/// Two props out on the wing, two elevons.
+const TAILSITTER: [Row; 4] = [
+    motor(0, [0.0, 0.0, 1.0]),
+    motor(1, [0.0, 0.0, -1.0]),
+    servo(0, [0.5, 0.5, 0.0]),
+    servo(1, [-0.5, 0.5, 0.0]),
+];
+
+/// A slot named twice: the later row wins.
+const TWICE: [Row; 6] = [
+    motor(3, [1.0, -1.0, 1.0]),
+    motor(3, [-1.0, 0.5, 0.25]),
+    servo(7, [1.0, 1.0, 0.0]),
+    servo(2, [0.3, 0.0, 0.7]),
+    servo(7, [0.0, 0.5, -1.0]),
+    motor(7, [0.0, 2.0, -2.0]),
+];
+
+fn rows(rng: &mut Rng) -> Vec<Row> {
+    match rng.below(6) {
+        0 | 1 => PLANE.to_vec(),
+        2 => TAILSITTER.to_vec(),
+        3 => TWICE.to_vec(),
+        4 => (0..rng.below(17)).map(|_| row(rng)).collect(),
+        _ => (0..16).map(|_| row(rng)).collect(),
+    }
+}
+
+/// An airframe in range: five of six plausible, the others anywhere within the limits.
+pub fn airframe(rng: &mut Rng) -> AirframeBlock {
+    let pitch_speed = rng.once_in(2);
+    let plausible = !rng.once_in(6);
+    let mut draw = |place: usize, plain: Range| {
+        if plausible {
+            rng.between(plain.0, plain.1)
+        } else {
+            anywhere(rng, limits::airframe(place, pitch_speed))
+        }
+    };
+    let mut numbers = core::array::from_fn(|at| draw(at + 1, PLAUSIBLE[at]));
+    let wash = core::array::from_fn(|at| draw(at + 42, PLAUSIBLE_WASH[at]));
+    if plausible && pitch_speed {
+        numbers[36] = rng.between(12.0, 40.0);
+    }
+    AirframeBlock {
+        pitch_speed,
+        numbers,
+        wash: rng.once_in(2).then_some(wash),
+        rows: rows(rng),
+    }
+}
+
+type Quaternion = [f64; 4];
+
+fn turn(axis: usize, degrees: f64) -> Quaternion {
+    let half = degrees.to_radians() / 2.0;
+    let mut q = [half.cos(), 0.0, 0.0, 0.0];
+    q[axis + 1] = half.sin();
+    q
+}
+
+fn times(a: Quaternion, b: Quaternion) -> Quaternion {
+    [
+        a[0] * b[0] - a[1] * b[1] - a[2] * b[2] - a[3] * b[3],
+        a[0] * b[1] + a[1] * b[0] + a[2] * b[3] - a[3] * b[2],
+        a[0] * b[2] - a[1] * b[3] + a[2] * b[0] + a[3] * b[1],
+        a[0] * b[3] + a[1] * b[2] - a[2] * b[1] + a[3] * b[0],
+    ]
+}
+
+/// Yaw, then pitch, then roll, in degrees.
+fn attitude(yaw: f64, pitch: f64, roll: f64) -> [f32; 4] {
+    times(times(turn(2, yaw), turn(1, pitch)), turn(0, roll)).map(|x| x as f32)
+}
+
+fn three(rng: &mut Rng, size: f32) -> [f32; 3] {
+    core::array::from_fn(|_| rng.between(-size, size))
+}
+
+fn running(rng: &mut Rng, range: Range) -> [f32; SLOTS] {
+    core::array::from_fn(|_| match rng.below(8) {
+        0 => range.0,
+        1 => range.1,
+        2 => -0.0,
+        3 => f32::from_bits(rng.pick(&[1, 0x007F_FFFF, 0x0080_0000])),
+        _ => rng.between(range.0, range.1),
+    })
+}
+
+/// A state within the envelope: level, inverted, stalled, tail first, at rest, or at the edge.
+pub fn state(rng: &mut Rng) -> State {
+    let degrees = |rng: &mut Rng, low: f32, high: f32| f64::from(rng.between(low, high));
+    let yaw = if rng.once_in(3) { 0.0 } else { degrees(rng, -180.0, 180.0) };
+    let ahead = rng.between(5.0, 40.0);
+    let heading = yaw.to_radians();
+    let level = [
+        ahead * heading.cos() as f32,
+        ahead * heading.sin() as f32,
+        rng.between(-2.0, 2.0),
+    ];
+    let mut state = State {
+        position: three(rng, 500.0),
+        velocity: level,
+        attitude: attitude(yaw, degrees(rng, -5.0, 10.0), degrees(rng, -20.0, 20.0)),
+        rates: three(rng, 1.0),
+        motors: running(rng, limits::MOTOR),
+        servos: running(rng, limits::SERVO),
+    };
+    match rng.below(8) {
+        0 => state.attitude = attitude(yaw, degrees(rng, -5.0, 5.0), 180.0),
+        1 => state.attitude = attitude(yaw, degrees(rng, 15.0, 80.0), degrees(rng, -90.0, 90.0)),
+        2 => tail_first(rng, &mut state),
+        3 => at_rest(rng, &mut state),
+        4 => at_edge(rng, &mut state),
+        _ => {}
+    }
+    state
+}
+
+/// Nose up and sinking, the air from behind.
+fn tail_first(rng: &mut Rng, state: &mut State) {
+    state.attitude = attitude(0.0, f64::from(rng.between(80.0, 100.0)), 0.0);
+    state.velocity = [0.0, rng.between(-1.0, 1.0), rng.between(0.0, 12.0)];
+}
+
+fn at_rest(rng: &mut Rng, state: &mut State) {
+    state.velocity = [rng.pick(&[0.0, -0.0, 1.0e-45, 1.0e-30, 1.0e-20]), 0.0, 0.0];
+    state.rates = [0.0, rng.pick(&[0.0, -0.0, 1.0e-7, 3.0e-5]), 0.0];
+    state.attitude = rng.pick(&[[1.0, 0.0, 0.0, 0.0], [-1.0, 0.0, -0.0, 0.0], [0.0, 1.0, 0.0, 0.0]]);
+}
+
+/// Some of the numbers at the envelope's edge, the quaternion's norm too.
+fn at_edge(rng: &mut Rng, state: &mut State) {
+    let edge = |rng: &mut Rng, old: f32, range: Range| match rng.below(4) {
+        0 => range.0,
+        1 => range.1,
+        _ => old,
+    };
+    match rng.below(3) {
+        0 => state.position = state.position.map(|x| edge(rng, x, limits::POSITION)),
+        1 => state.velocity = state.velocity.map(|x| edge(rng, x, limits::VELOCITY)),
+        _ => state.rates = state.rates.map(|x| edge(rng, x, limits::RATE)),
+    }
+    let norm = rng.pick(&[0.9f64, 0.901, 1.0, 1.05, 1.1]).sqrt();
+    let scaled = state.attitude.map(|x| (f64::from(x) * norm) as f32);
+    let edged = State {
+        attitude: scaled,
+        ..*state
+    };
+    if edged.inside() {
+        *state = edged;
+    }
+}
+
+fn special(rng: &mut Rng) -> f32 {
+    f32::from_bits(rng.pick(&SPECIAL))
+}
+
+/// A command: plausible ones in `range`, others of any kind.
+fn command(rng: &mut Rng, range: Range) -> f32 {
+    match rng.below(10) {
+        0 => special(rng),
+        1 => rng.scaled(-4, 6),
+        2 => rng.bits(),
+        _ => rng.between(range.0, range.1),
+    }
+}
+
+fn step(rng: &mut Rng) -> f32 {
+    match rng.below(16) {
+        0 => rng.pick(&[0.0, -0.0, 0.0201, -0.01, 1.0, f32::NAN, f32::INFINITY]),
+        1 => rng.pick(&[limits::STEP_S.0.next_down(), limits::STEP_S.1.next_up(), 1.0e-40]),
+        2 => rng.pick(&[limits::STEP_S.0, limits::STEP_S.1]),
+        3 => rng.between(limits::STEP_S.0, limits::STEP_S.1),
+        4..8 => 1.0 / 256.0,
+        8..12 => 0.01,
+        _ => 1.0 / 64.0,
+    }
+}
+
+fn wind(rng: &mut Rng) -> [f32; 3] {
+    match rng.below(16) {
+        0 => [f32::NAN; 3],
+        1 => [special(rng), rng.between(-3.0, 3.0), 0.0],
+        2 => [special(rng), special(rng), special(rng)],
+        3 => core::array::from_fn(|_| rng.scaled(-30, 6)),
+        4 => core::array::from_fn(|_| rng.scaled(4, 12)),
+        5..10 => [0.0; 3],
+        _ => three(rng, 12.0),
+    }
+}
+
+/// The 20 numbers of a tick. `calm` keeps to plausible winds and commands.
+pub fn tick(rng: &mut Rng, calm: bool) -> [f32; 20] {
+    let mut tick = [0.0; 20];
+    tick[0] = if calm { 0.01 } else { step(rng) };
+    let wind = if calm { three(rng, 4.0) } else { wind(rng) };
+    tick[1..4].copy_from_slice(&wind);
+    for at in 4..20 {
+        let range = if at < 12 { limits::MOTOR } else { limits::SERVO };
+        tick[at] = if calm {
+            rng.between(range.0, range.1)
+        } else {
+            command(rng, range)
+        };
+    }
+    tick
+}
+
+/// A whole input of fly: an airframe, a state and up to `most` ticks, every third one calm.
+pub fn flight(rng: &mut Rng, most: usize) -> Vec<u8> {
+    let calm = rng.once_in(3);
+    let mut bytes = airframe(rng).bytes();
+    bytes.extend(state_bytes(&state(rng)));
+    for _ in 0..1 + rng.below(most) {
+        push(&mut bytes, &tick(rng, calm));
+    }
+    bytes
+}
+
+/// An input damaged in one place.
+pub fn damaged(rng: &mut Rng) -> Vec<u8> {
+    let airframe = airframe(rng);
+    match rng.below(9) {
+        0 => bad_header(rng, airframe),
+        1 => bad_row(rng, airframe),
+        2 | 3 => bad_number(rng, airframe),
+        4 | 5 => bad_state(rng, airframe),
+        _ => cut(rng, airframe),
+    }
+}
+
+fn with_state_and_tick(rng: &mut Rng, airframe: &AirframeBlock) -> Vec<u8> {
+    let mut bytes = airframe.bytes();
+    bytes.extend(state_bytes(&state(rng)));
+    push(&mut bytes, &tick(rng, true));
+    bytes
+}
+
+/// Version, falloff kind, a reserved bit or the row count; now and then two of them.
+fn bad_header(rng: &mut Rng, airframe: AirframeBlock) -> Vec<u8> {
+    let mut bytes = with_state_and_tick(rng, &airframe);
+    for _ in 0..1 + rng.below(2) {
+        match rng.below(4) {
+            0 => bytes[0] ^= 1 << (4 + rng.below(4)),
+            1 => bytes[0] |= 0b1000,
+            2 if rng.once_in(2) => bytes[0] |= 1,
+            2 => bytes[1] |= 1 << (5 + rng.below(3)),
+            _ => bytes[1] = bytes[1] & 0xE0 | (17 + rng.below(15)) as u8,
+        }
+    }
+    let kept = rng.pick(&[2, 3, bytes.len()]);
+    bytes.truncate(kept);
+    bytes
+}
+
+/// A reserved bit in a row, or a bad factor.
+fn bad_row(rng: &mut Rng, mut airframe: AirframeBlock) -> Vec<u8> {
+    airframe.rows.push(row(rng));
+    airframe.rows.truncate(16);
+    let at = rng.below(airframe.rows.len());
+    if rng.once_in(2) {
+        let bad = rng.pick(&[0.0099, 10.1, -1.0e-30, f32::NAN, f32::INFINITY, 1.0e-45]);
+        airframe.rows[at].factors[rng.below(3)] = bad;
+        return with_state_and_tick(rng, &airframe);
+    }
+    let head = airframe.bytes().len() - 13 * (airframe.rows.len() - at);
+    let mut bytes = with_state_and_tick(rng, &airframe);
+    bytes[head] |= 1 << rng.below(4);
+    bytes
+}
+
+/// A number just outside its range, or none at all.
+fn outside(rng: &mut Rng, range: Range) -> f32 {
+    match rng.below(6) {
+        0 => f32::NAN,
+        1 => rng.pick(&[f32::INFINITY, f32::NEG_INFINITY]),
+        2 | 3 => range.0.next_down(),
+        _ => range.1.next_up(),
+    }
+}
+
+/// One or two airframe numbers out of range.
+fn bad_number(rng: &mut Rng, mut airframe: AirframeBlock) -> Vec<u8> {
+    for _ in 0..1 + rng.below(2) {
+        let place = 1 + rng.below(48);
+        let bad = outside(rng, limits::airframe(place, airframe.pitch_speed));
+        match (place, &mut airframe.wash) {
+            (..42, _) => airframe.numbers[place - 1] = bad,
+            (_, Some(wash)) => wash[place - 42] = bad,
+            (_, None) => airframe.numbers[36] = bad,
+        }
+    }
+    with_state_and_tick(rng, &airframe)
+}
+
+fn bad_state(rng: &mut Rng, airframe: AirframeBlock) -> Vec<u8> {
+    let mut state = state(rng);
+    let axis = rng.below(3);
+    match rng.below(6) {
+        0 => state.position[axis] = outside(rng, limits::POSITION),
+        1 => state.velocity[axis] = outside(rng, limits::VELOCITY),
+        2 => state.rates[axis] = outside(rng, limits::RATE),
+        3 => state.attitude = rng.pick(&[[0.9, 0.0, 0.0, 0.0], [0.8, 0.7, 0.0, 0.0], [f32::NAN; 4]]),
+        4 => state.motors[axis] = outside(rng, limits::MOTOR),
+        _ => state.servos[axis] = outside(rng, limits::SERVO),
+    }
+    let mut bytes = airframe.bytes();
+    bytes.extend(state_bytes(&state));
+    push(&mut bytes, &tick(rng, true));
+    bytes
+}
+
+/// Cut or drawn out around a boundary.
+fn cut(rng: &mut Rng, airframe: AirframeBlock) -> Vec<u8> {
+    let mut bytes = with_state_and_tick(rng, &airframe);
+    let end = airframe.bytes().len();
+    let boundary = rng.pick(&[0, 2, 166, end, end + 116, end + 196]);
+    let length = (boundary + rng.below(3)).saturating_sub(1);
+    bytes.resize(length, 0);
+    bytes
+}
+
+/// The input with number `index` from `seed`: two whole flights, then a damaged one.
+pub fn input(seed: u64, index: u64) -> Vec<u8> {
+    let mut rng = Rng::new(seed ^ index.wrapping_mul(0xD134_2543_DE82_EF95));
+    if index % 3 == 2 {
+        damaged(&mut rng)
+    } else {
+        flight(&mut rng, 24)
+    }
+}

@@ -1,0 +1,211 @@
+//! Inputs of fly at every limit: each number just inside and just outside its range, each
+//! header bit, each length around each boundary.
+
+use crate::blocks::State;
+use crate::hand;
+use crate::inputs::{AirframeBlock, Row, push, state_bytes};
+use crate::limits::{self, Range};
+
+/// All of them.
+pub fn all() -> Vec<Vec<u8>> {
+    [
+        hand_made(),
+        headers(),
+        row_bits(),
+        airframes_at_limits(),
+        airframes_outside(),
+        factors(),
+        states(),
+        norms(),
+        steps(),
+    ]
+    .concat()
+}
+
+/// The fall of document 01, whole and cut at every boundary, and one byte past it.
+fn hand_made() -> Vec<Vec<u8>> {
+    let fall = hand::fall();
+    let boundaries = [0, 1, 2, 3, 165, 166, 167, 281, 282, 283, 361, 362, 363, 441];
+    let mut all = vec![fall.clone()];
+    all.extend(boundaries.map(|end| fall[..end].to_vec()));
+    all.push([&fall[..], &[0]].concat());
+    all
+}
+
+/// Every version, falloff kind, reserved bit and row count too many: the two bytes alone, since
+/// a bad header is answered whatever follows.
+fn headers() -> Vec<Vec<u8>> {
+    let mut all: Vec<u16> = (0..16).filter(|version| *version != 1).map(|v| v << 12).collect();
+    all.extend([0x1800, 0x1C00, 0x1A00, 0x1100, 0x1080, 0x1040, 0x1020]);
+    all.extend((17..32).map(|rows| 0x1000 | rows));
+    // Two at once: the earlier one answers.
+    all.extend([0x2C00, 0x1D00, 0x1111, 0x0FFF]);
+    all.into_iter().map(|bits| bits.to_be_bytes().to_vec()).collect()
+}
+
+/// One bad row bit of each kind, in the first or the second row, over a number out of range.
+fn row_bits() -> Vec<Vec<u8>> {
+    let mut block = with_wash();
+    block.numbers[0] = f32::NAN;
+    block.rows = vec![row([0.0; 3]); 2];
+    let bytes = block.bytes();
+    let mut all = Vec::new();
+    for bit in 0..4 {
+        let mut bad = bytes.clone();
+        bad[194 + 13 * (bit % 2)] |= 1 << bit;
+        all.push(bad);
+    }
+    all.push(bytes);
+    all
+}
+
+fn row(factors: [f32; 3]) -> Row {
+    Row {
+        servo: true,
+        slot: 5,
+        factors,
+    }
+}
+
+fn with_wash() -> AirframeBlock {
+    AirframeBlock {
+        wash: Some([1.0; 7]),
+        ..hand::plain()
+    }
+}
+
+fn set(block: &mut AirframeBlock, place: usize, number: f32) {
+    match &mut block.wash {
+        Some(wash) if place >= 42 => wash[place - 42] = number,
+        _ => block.numbers[place - 1] = number,
+    }
+}
+
+/// All numbers at their lower or their upper limits, for both falloffs, and a tick at rest.
+fn airframes_at_limits() -> Vec<Vec<u8>> {
+    let mut all = Vec::new();
+    for pitch_speed in [false, true] {
+        for upper in [false, true] {
+            let mut block = with_wash();
+            block.pitch_speed = pitch_speed;
+            for place in 1..=48 {
+                let (low, high) = limits::airframe(place, pitch_speed);
+                set(&mut block, place, if upper { high } else { low });
+            }
+            all.push(with_tick(&block, &hand::at_rest(), 0.01));
+        }
+    }
+    all
+}
+
+/// Each number in turn just below and just above its range; the airframe alone, since its
+/// refusal is answered first.
+fn airframes_outside() -> Vec<Vec<u8>> {
+    let mut all = Vec::new();
+    for place in 1..=48 {
+        for bad in outside(limits::airframe(place, false)) {
+            let mut block = if place < 42 { hand::plain() } else { with_wash() };
+            set(&mut block, place, bad);
+            all.push(block.bytes());
+        }
+    }
+    let mut slow = hand::plain();
+    slow.pitch_speed = true;
+    slow.numbers[36] = 0.1f32.next_down();
+    all.push(slow.bytes());
+    all
+}
+
+fn outside((low, high): Range) -> [f32; 2] {
+    [low.next_down(), high.next_up()]
+}
+
+/// Row factors at and around their limits.
+fn factors() -> Vec<Vec<u8>> {
+    let good = [0.0, -0.0, 0.01, -0.01, 10.0, -10.0];
+    let bad = [0.01f32.next_down(), 10f32.next_up(), 1.0e-45, f32::NAN, f32::INFINITY];
+    let mut all = Vec::new();
+    for (at, factor) in good.into_iter().chain(bad).enumerate() {
+        let mut factors = [0.0; 3];
+        factors[at % 3] = factor;
+        let mut block = hand::plain();
+        block.rows = vec![row(factors)];
+        all.push(with_tick(&block, &hand::at_rest(), 0.01));
+    }
+    all
+}
+
+/// Each number of the state at its limits and just outside them, without a tick.
+fn states() -> Vec<Vec<u8>> {
+    let mut all = Vec::new();
+    for at in 0..29 {
+        let range = match at {
+            0..3 => limits::POSITION,
+            3..6 => limits::VELOCITY,
+            6..10 => continue,
+            10..13 => limits::RATE,
+            13..21 => limits::MOTOR,
+            _ => limits::SERVO,
+        };
+        let [below, above] = outside(range);
+        let tries = match at % 3 {
+            0 => [below, range.1],
+            1 => [range.0, above],
+            _ => [above, f32::NAN],
+        };
+        for number in tries {
+            all.push(state_with(at, number));
+        }
+    }
+    all
+}
+
+/// The plain airframe and the state at rest but for its number `at`.
+fn state_with(at: usize, number: f32) -> Vec<u8> {
+    let mut bytes = hand::plain().bytes();
+    let state_at = bytes.len();
+    bytes.extend(state_bytes(&hand::at_rest()));
+    bytes[state_at + 4 * at..][..4].copy_from_slice(&number.to_be_bytes());
+    bytes
+}
+
+/// Attitudes whose squared norm is near 0.9 and 1.1, and a tick.
+fn norms() -> Vec<Vec<u8>> {
+    let mut all = Vec::new();
+    for norm in [0.9f32, 1.1] {
+        let w = norm.sqrt();
+        for w in [w.next_down().next_down(), w.next_down(), w, w.next_up(), w.next_up().next_up()] {
+            let state = State {
+                attitude: [w, 0.0, 0.0, 0.0],
+                ..hand::at_rest()
+            };
+            all.push(with_tick(&hand::plain(), &state, 0.01));
+        }
+    }
+    all
+}
+
+/// Steps around their limits, one flight.
+fn steps() -> Vec<Vec<u8>> {
+    let (low, high) = limits::STEP_S;
+    let steps = [low, low.next_down(), high, high.next_up(), 0.0201, 0.0, -low, f32::NAN, high];
+    let mut bytes = hand::plain().bytes();
+    bytes.extend(state_bytes(&hand::at_rest()));
+    for step in steps {
+        push(&mut bytes, &still(step));
+    }
+    vec![bytes]
+}
+
+fn still(step: f32) -> [f32; 20] {
+    let mut tick = [0.0; 20];
+    tick[0] = step;
+    tick
+}
+
+fn with_tick(block: &AirframeBlock, state: &State, step: f32) -> Vec<u8> {
+    let mut bytes = block.bytes();
+    bytes.extend(state_bytes(state));
+    push(&mut bytes, &still(step));
+    bytes
+}
