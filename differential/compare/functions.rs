@@ -91,7 +91,10 @@ pub fn compare(n: u64, seed: u64, folder: &Path) -> Found {
     let mut found = Found::default();
     for function in &FUNCTIONS {
         let one = compare_one(function, n, seed, folder);
-        println!("{}: {} cases, {} differ", function.name, one.cases, one.differing);
+        println!(
+            "{}: {} cases, {} differ",
+            function.name, one.cases, one.differing
+        );
         found.add(one);
     }
     found
@@ -111,7 +114,9 @@ fn compare_one(function: &Function, n: u64, seed: u64, folder: &Path) -> Found {
         }
         progress.at(found.cases, found.differing);
     }
-    found.files.extend(first.map(|x| write(function, x, folder)));
+    found
+        .files
+        .extend(first.map(|x| write(function, x, folder)));
     found
 }
 

@@ -1,6 +1,8 @@
-//! Compares the oracle with the Rattle side: `compare N SEED FOLDER`. One module for each thing
-//! compared; a difference is written, as small as it can be made, into FOLDER.
+//! Compares the oracle with the Rattle side: `compare N SEED FOLDER PROGRAM`. One module for each
+//! thing compared; a difference is written, as small as it can be made, into FOLDER. PROGRAM is
+//! the Rattle fly; flights are left out where it is missing.
 
+mod flights;
 mod functions;
 mod progress;
 mod shrink;
@@ -26,20 +28,31 @@ impl Found {
 
 fn main() -> ExitCode {
     let arguments: Vec<String> = std::env::args().skip(1).collect();
-    let Some((n, seed, folder)) = read(&arguments) else {
-        eprintln!("usage: compare N SEED FOLDER");
+    let Some((n, seed, folder, program)) = read(&arguments) else {
+        eprintln!("usage: compare N SEED FOLDER PROGRAM");
         return ExitCode::FAILURE;
     };
-    let mut found = Found::default();
-    found.add(functions::compare(n, seed, folder));
+    let mut found = functions::compare(n, seed, folder);
+    if program.is_file() {
+        match flights::compare(n, seed, folder, program) {
+            Ok(more) => found.add(more),
+            Err(error) => {
+                eprintln!("compare: {}: {error}", program.display());
+                return ExitCode::FAILURE;
+            }
+        }
+    } else {
+        println!("flights: left out, {} is missing", program.display());
+    }
     report(&found)
 }
 
-fn read(arguments: &[String]) -> Option<(u64, u64, &Path)> {
-    let [n, seed, folder] = arguments else {
+fn read(arguments: &[String]) -> Option<(u64, u64, &Path, &Path)> {
+    let [n, seed, folder, program] = arguments else {
         return None;
     };
-    Some((n.parse().ok()?, seed.parse().ok()?, Path::new(folder)))
+    let (n, seed) = (n.parse().ok()?, seed.parse().ok()?);
+    Some((n, seed, Path::new(folder), Path::new(program)))
 }
 
 fn report(found: &Found) -> ExitCode {

@@ -5,11 +5,36 @@ use crate::rng::Rng;
 
 /// Zeros, subnormals, ones, the largest, infinities and NaNs of either sign.
 pub const SPECIAL: [u32; 30] = [
-    0x0000_0000, 0x8000_0000, 0x0000_0001, 0x8000_0001, 0x0000_0002, 0x0040_0000, 0x8040_0000,
-    0x007F_FFFF, 0x807F_FFFF, 0x0080_0000, 0x8080_0000, 0x0080_0001, 0x3F80_0000, 0xBF80_0000,
-    0x3F00_0000, 0xBF00_0000, 0x4000_0000, 0xC000_0000, 0x7F7F_FFFF, 0xFF7F_FFFF, 0x7F80_0000,
-    0xFF80_0000, 0x7FC0_0000, 0xFFC0_0000, 0x7F80_0001, 0xFF80_0001, 0x7FFF_FFFF, 0xFFFF_FFFF,
-    0x7F00_0000, 0x3EAA_AAAB,
+    0x0000_0000,
+    0x8000_0000,
+    0x0000_0001,
+    0x8000_0001,
+    0x0000_0002,
+    0x0040_0000,
+    0x8040_0000,
+    0x007F_FFFF,
+    0x807F_FFFF,
+    0x0080_0000,
+    0x8080_0000,
+    0x0080_0001,
+    0x3F80_0000,
+    0xBF80_0000,
+    0x3F00_0000,
+    0xBF00_0000,
+    0x4000_0000,
+    0xC000_0000,
+    0x7F7F_FFFF,
+    0xFF7F_FFFF,
+    0x7F80_0000,
+    0xFF80_0000,
+    0x7FC0_0000,
+    0xFFC0_0000,
+    0x7F80_0001,
+    0xFF80_0001,
+    0x7FFF_FFFF,
+    0xFFFF_FFFF,
+    0x7F00_0000,
+    0x3EAA_AAAB,
 ];
 
 /// `x` and its `count` nearest neighbours on each side.
@@ -59,7 +84,10 @@ pub fn for_exp() -> Vec<f32> {
         let point = (f64::from(half) - 0.5) * core::f64::consts::LN_2;
         all.extend(near(point as f32, 1));
     }
-    all.extend(near_each(&[-86.99, -87.3, 87.99, 88.7, 89.0, 127.0, -104.0], 1));
+    all.extend(near_each(
+        &[-86.99, -87.3, 87.99, 88.7, 89.0, 127.0, -104.0],
+        1,
+    ));
     all
 }
 
@@ -69,14 +97,19 @@ pub fn for_sin_cos() -> Vec<f32> {
     let eighth = core::f64::consts::FRAC_PI_4;
     let points: Vec<f32> = (1..6).map(|n| (eighth * f64::from(n)) as f32).collect();
     all.extend(near_each(&both_signs(&points), 3));
-    all.extend(near_each(&both_signs(&[4.0, 3.5, 1.0, 0.1, 1.0e-3, 1.0e-20]), 2));
+    all.extend(near_each(
+        &both_signs(&[4.0, 3.5, 1.0, 0.1, 1.0e-3, 1.0e-20]),
+        2,
+    ));
     all
 }
 
 /// 1 and its neighbours, 0, and where the tangent passes the branch, both signs.
 pub fn for_asin() -> Vec<f32> {
     let mut all = special();
-    let points = [1.0, 0.38268343, 0.70710678, 0.92387953, 0.5, 1.0e-4, 0.99, 1.5, 1.0e-30];
+    let points = [
+        1.0, 0.38268343, 0.70710678, 0.92387953, 0.5, 1.0e-4, 0.99, 1.5, 1.0e-30,
+    ];
     all.extend(near_each(&both_signs(&points), 3));
     all
 }
@@ -85,8 +118,18 @@ pub fn for_asin() -> Vec<f32> {
 pub fn for_atan2() -> Vec<(f32, f32)> {
     let mut all = Vec::new();
     let few = [
-        0x0000_0000, 0x8000_0000, 0x0000_0001, 0x8000_0001, 0x3F80_0000, 0xBF80_0000, 0x7F7F_FFFF,
-        0xFF7F_FFFF, 0x7F80_0000, 0xFF80_0000, 0x7FC0_0000, 0xFF80_0001,
+        0x0000_0000,
+        0x8000_0000,
+        0x0000_0001,
+        0x8000_0001,
+        0x3F80_0000,
+        0xBF80_0000,
+        0x7F7F_FFFF,
+        0xFF7F_FFFF,
+        0x7F80_0000,
+        0xFF80_0000,
+        0x7FC0_0000,
+        0xFF80_0001,
     ];
     for y in few {
         for x in few {

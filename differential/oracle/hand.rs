@@ -19,8 +19,16 @@ type Case = (&'static str, bool);
 
 /// Prints a line for each case and the count; true if all hold.
 pub fn check() -> bool {
-    let cases: Vec<Case> = [lags(), shares(), functions(), rows(), replies(), ticks(), flights()]
-        .concat();
+    let cases: Vec<Case> = [
+        lags(),
+        shares(),
+        functions(),
+        rows(),
+        replies(),
+        ticks(),
+        flights(),
+    ]
+    .concat();
     for (says, holds) in &cases {
         println!("{} {says}", if *holds { "ok  " } else { "FAIL" });
     }
@@ -37,10 +45,22 @@ fn approach(value: f32, command: f32, low: f32, alpha: f32) -> f32 {
 
 fn lags() -> Vec<Case> {
     vec![
-        ("approach 0 to 1, factor 0.5: 0.5", approach(0.0, 1.0, 0.0, 0.5) == 0.5),
-        ("NaN command, running 0.5, factor 0.5: 0.25", approach(0.5, f32::NAN, 0.0, 0.5) == 0.25),
-        ("+infinity, running 1: 1", approach(1.0, f32::INFINITY, 0.0, 0.5) == 1.0),
-        ("servo -7, running 0, factor 1: -1", approach(0.0, -7.0, -1.0, 1.0) == -1.0),
+        (
+            "approach 0 to 1, factor 0.5: 0.5",
+            approach(0.0, 1.0, 0.0, 0.5) == 0.5,
+        ),
+        (
+            "NaN command, running 0.5, factor 0.5: 0.25",
+            approach(0.5, f32::NAN, 0.0, 0.5) == 0.25,
+        ),
+        (
+            "+infinity, running 1: 1",
+            approach(1.0, f32::INFINITY, 0.0, 0.5) == 1.0,
+        ),
+        (
+            "servo -7, running 0, factor 1: -1",
+            approach(0.0, -7.0, -1.0, 1.0) == -1.0,
+        ),
     ]
 }
 
@@ -73,12 +93,21 @@ fn share(share: f32, speed: f32) -> f32 {
 
 fn shares() -> Vec<Case> {
     vec![
-        ("PitchSpeed 20, share 0.25, speed 5: 0.5", share(0.25, 5.0) == 0.5),
+        (
+            "PitchSpeed 20, share 0.25, speed 5: 0.5",
+            share(0.25, 5.0) == 0.5,
+        ),
         ("PitchSpeed 20, speed NaN: 1", share(0.25, f32::NAN) == 1.0),
         ("PitchSpeed 20, share 0, speed 5: 0", share(0.0, 5.0) == 0.0),
-        ("PitchSpeed 20, share -0, speed 5: 0", share(-0.0, 5.0) == 0.0),
+        (
+            "PitchSpeed 20, share -0, speed 5: 0",
+            share(-0.0, 5.0) == 0.0,
+        ),
         ("sharpness 0: blend 0.75", blend_without_sharpness() == 0.75),
-        ("thrust 0.6125, disc 1, sink loss 0.5, axial -1: added 0", added() == 0.0),
+        (
+            "thrust 0.6125, disc 1, sink loss 0.5, axial -1: added 0",
+            added() == 0.0,
+        ),
     ]
 }
 
@@ -96,13 +125,19 @@ fn functions() -> Vec<Case> {
     let atan2 = libm::atan2f(-0.0, -1.0);
     vec![
         ("atan2(-0, -1) = 40490FDB", atan2.to_bits() == 0x4049_0FDB),
-        ("sqrt(2) = 3FB504F3", libm::sqrtf(2.0).to_bits() == 0x3FB5_04F3),
+        (
+            "sqrt(2) = 3FB504F3",
+            libm::sqrtf(2.0).to_bits() == 0x3FB5_04F3,
+        ),
     ]
 }
 
 fn one_servo() -> Airframe {
     let mut airframe = airframe_of(&plain());
-    mix(&mut airframe, &[MixRow::new(Slot::Servo(3), [0.5, 0.0, 0.0])]);
+    mix(
+        &mut airframe,
+        &[MixRow::new(Slot::Servo(3), [0.5, 0.0, 0.0])],
+    );
     airframe
 }
 
@@ -120,8 +155,14 @@ fn rows() -> Vec<Case> {
     let weights = one_servo().weights;
     let later = twice().torques[2];
     vec![
-        ("one servo, factor 0.5: weight 2", weights[3] == Vec3::new(2.0, 0.0, 0.0)),
-        ("a later row of the same slot wins", later == Vec3::new(0.0, -0.5, 0.5)),
+        (
+            "one servo, factor 0.5: weight 2",
+            weights[3] == Vec3::new(2.0, 0.0, 0.0),
+        ),
+        (
+            "a later row of the same slot wins",
+            later == Vec3::new(0.0, -0.5, 0.5),
+        ),
     ]
 }
 
@@ -164,7 +205,10 @@ fn replies() -> Vec<Case> {
     };
     let outside = read_state(&state_bytes(&fast)) == Err(Refusal::of(limits::STATE));
     vec![
-        ("a 166-byte airframe block in range: 0", reads(&plain().bytes(), 0, 0)),
+        (
+            "a 166-byte airframe block in range: 0",
+            reads(&plain().bytes(), 0, 0),
+        ),
         ("a state block of 115 bytes: 1", short),
         ("first byte 20 hex: 2", reads(&headed(0x20, 0), 2, 0)),
         ("first byte 18 hex: 3", reads(&headed(0x18, 0), 3, 0)),
@@ -175,7 +219,10 @@ fn replies() -> Vec<Case> {
         ("mass NaN: 6, place 1", reads(&no_mass.bytes(), 6, 1)),
         ("rate 101 rad/s: 7", outside),
         ("1 byte: 1", reads(&[0x20], 1, 0)),
-        ("a 167-byte airframe block: 1", reads(&[&plain().bytes()[..], &[0]].concat(), 1, 0)),
+        (
+            "a 167-byte airframe block: 1",
+            reads(&[&plain().bytes()[..], &[0]].concat(), 1, 0),
+        ),
         ("16 rows pass", reads(&with_rows(16), 0, 0)),
         ("17 rows get 5", reads(&with_rows(17), 5, 0)),
         ("115 bytes lent for a state: left as found", unwritten),
@@ -202,7 +249,13 @@ fn still(step: f32) -> Tick {
 fn answered(airframe: &Airframe, state: &State, tick: &Tick, answer: u8, place: u8) -> bool {
     let (report, next) = tick::tick(airframe, state, tick);
     let kept = answer == 0 || next == *state;
-    report == (Report { answer, place, ..report }) && kept
+    report
+        == (Report {
+            answer,
+            place,
+            ..report
+        })
+        && kept
 }
 
 /// 9's example: the position leaves the envelope though nothing accelerates it north.
@@ -246,15 +299,39 @@ fn ticks() -> Vec<Case> {
     let short_run = run(&airframe, &rest, &[0; 79]) == (1, rest, 0);
     let empty_run = run(&airframe, &rest, &[]) == (0, rest, 0);
     vec![
-        ("step 0.02 passes", answered(&airframe, &rest, &still(0.02), 0, 0)),
-        ("step 0.0201 gets 8", answered(&airframe, &rest, &still(0.0201), 8, 0)),
-        ("step 0 gets 8", answered(&airframe, &rest, &still(0.0), 8, 0)),
-        ("a tick from a state at 101 rad/s gets 7", answered(&airframe, &fast, &still(0.0), 7, 0)),
-        ("the zero airframe's tick gets 6", answered(&Airframe::zero(), &fast, &still(0.0), 6, 1)),
-        ("a hand-made torque of 100.5: 6, place 50", answered(&torque, &rest, &still(0.02), 6, 50)),
-        ("a hand-made weight of 101.5: 6, place 51", answered(&weight, &rest, &still(0.02), 6, 51)),
+        (
+            "step 0.02 passes",
+            answered(&airframe, &rest, &still(0.02), 0, 0),
+        ),
+        (
+            "step 0.0201 gets 8",
+            answered(&airframe, &rest, &still(0.0201), 8, 0),
+        ),
+        (
+            "step 0 gets 8",
+            answered(&airframe, &rest, &still(0.0), 8, 0),
+        ),
+        (
+            "a tick from a state at 101 rad/s gets 7",
+            answered(&airframe, &fast, &still(0.0), 7, 0),
+        ),
+        (
+            "the zero airframe's tick gets 6",
+            answered(&Airframe::zero(), &fast, &still(0.0), 6, 1),
+        ),
+        (
+            "a hand-made torque of 100.5: 6, place 50",
+            answered(&torque, &rest, &still(0.02), 6, 50),
+        ),
+        (
+            "a hand-made weight of 101.5: 6, place 51",
+            answered(&weight, &rest, &still(0.02), 6, 51),
+        ),
         ("position 1,000,000 m north at 150 m/s: 9", departs()),
-        ("an unused motor keeps its running value and pulls", unused_motor_stays()),
+        (
+            "an unused motor keeps its running value and pulls",
+            unused_motor_stays(),
+        ),
         ("a trace of 79 bytes: 1", short_run),
         ("an empty trace: 0, the start, no tick", empty_run),
     ]
@@ -285,7 +362,10 @@ fn flights() -> Vec<Case> {
     let short = &fall[..fall.len() - 1];
     vec![
         ("fly's fall of two ticks", fly(&fall) == FALL),
-        ("a byte short of the second tick", fly(short) == [FALL[0], "0 1 0"]),
+        (
+            "a byte short of the second tick",
+            fly(short) == [FALL[0], "0 1 0"],
+        ),
         ("fly of nothing", fly(&[]) == ["0 1 0"]),
         ("fly of a bad header alone", fly(&[0x20, 0]) == ["0 2 0"]),
         ("fly of a short airframe", fly(&fall[..165]) == ["0 1 0"]),

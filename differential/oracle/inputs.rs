@@ -31,7 +31,10 @@ impl AirframeBlock {
             | self.rows.len() as u16;
         let mut bytes = header.to_be_bytes().to_vec();
         push(&mut bytes, &self.numbers);
-        push(&mut bytes, &self.wash.unwrap_or_default()[..self.wash_count()]);
+        push(
+            &mut bytes,
+            &self.wash.unwrap_or_default()[..self.wash_count()],
+        );
         for row in &self.rows {
             bytes.push(u8::from(row.servo) << 7 | row.slot << 4);
             push(&mut bytes, &row.factors);
@@ -149,7 +152,11 @@ pub fn row(rng: &mut Rng) -> Row {
 
 /// A random size between 0 and 0.01 is no row factor.
 fn keep_small(factor: f32) -> f32 {
-    if limits::row_factor(factor) { factor } else { 0.01 }
+    if limits::row_factor(factor) {
+        factor
+    } else {
+        0.01
+    }
 }
 
 const fn motor(slot: u8, factors: [f32; 3]) -> Row {
@@ -269,7 +276,11 @@ fn running(rng: &mut Rng, range: Range) -> [f32; SLOTS] {
 /// A state within the envelope: level, inverted, stalled, tail first, at rest, or at the edge.
 pub fn state(rng: &mut Rng) -> State {
     let degrees = |rng: &mut Rng, low: f32, high: f32| f64::from(rng.between(low, high));
-    let yaw = if rng.once_in(3) { 0.0 } else { degrees(rng, -180.0, 180.0) };
+    let yaw = if rng.once_in(3) {
+        0.0
+    } else {
+        degrees(rng, -180.0, 180.0)
+    };
     let ahead = rng.between(5.0, 40.0);
     let heading = yaw.to_radians();
     let level = [
@@ -305,7 +316,11 @@ fn tail_first(rng: &mut Rng, state: &mut State) {
 fn at_rest(rng: &mut Rng, state: &mut State) {
     state.velocity = [rng.pick(&[0.0, -0.0, 1.0e-45, 1.0e-30, 1.0e-20]), 0.0, 0.0];
     state.rates = [0.0, rng.pick(&[0.0, -0.0, 1.0e-7, 3.0e-5]), 0.0];
-    state.attitude = rng.pick(&[[1.0, 0.0, 0.0, 0.0], [-1.0, 0.0, -0.0, 0.0], [0.0, 1.0, 0.0, 0.0]]);
+    state.attitude = rng.pick(&[
+        [1.0, 0.0, 0.0, 0.0],
+        [-1.0, 0.0, -0.0, 0.0],
+        [0.0, 1.0, 0.0, 0.0],
+    ]);
 }
 
 /// Some of the numbers at the envelope's edge, the quaternion's norm too.
@@ -348,7 +363,11 @@ fn command(rng: &mut Rng, range: Range) -> f32 {
 fn step(rng: &mut Rng) -> f32 {
     match rng.below(16) {
         0 => rng.pick(&[0.0, -0.0, 0.0201, -0.01, 1.0, f32::NAN, f32::INFINITY]),
-        1 => rng.pick(&[limits::STEP_S.0.next_down(), limits::STEP_S.1.next_up(), 1.0e-40]),
+        1 => rng.pick(&[
+            limits::STEP_S.0.next_down(),
+            limits::STEP_S.1.next_up(),
+            1.0e-40,
+        ]),
         2 => rng.pick(&[limits::STEP_S.0, limits::STEP_S.1]),
         3 => rng.between(limits::STEP_S.0, limits::STEP_S.1),
         4..8 => 1.0 / 256.0,
@@ -376,7 +395,11 @@ pub fn tick(rng: &mut Rng, calm: bool) -> [f32; 20] {
     let wind = if calm { three(rng, 4.0) } else { wind(rng) };
     tick[1..4].copy_from_slice(&wind);
     for at in 4..20 {
-        let range = if at < 12 { limits::MOTOR } else { limits::SERVO };
+        let range = if at < 12 {
+            limits::MOTOR
+        } else {
+            limits::SERVO
+        };
         tick[at] = if calm {
             rng.between(range.0, range.1)
         } else {
@@ -480,7 +503,9 @@ fn bad_state(rng: &mut Rng, airframe: AirframeBlock) -> Vec<u8> {
         0 => state.position[axis] = outside(rng, limits::POSITION),
         1 => state.velocity[axis] = outside(rng, limits::VELOCITY),
         2 => state.rates[axis] = outside(rng, limits::RATE),
-        3 => state.attitude = rng.pick(&[[0.9, 0.0, 0.0, 0.0], [0.8, 0.7, 0.0, 0.0], [f32::NAN; 4]]),
+        3 => {
+            state.attitude = rng.pick(&[[0.9, 0.0, 0.0, 0.0], [0.8, 0.7, 0.0, 0.0], [f32::NAN; 4]])
+        }
         4 => state.motors[axis] = outside(rng, limits::MOTOR),
         _ => state.servos[axis] = outside(rng, limits::SERVO),
     }

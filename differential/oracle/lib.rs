@@ -33,5 +33,6 @@ pub mod tick;
 pub mod arguments;
 pub mod inputs;
 pub mod lists;
+pub mod mirror;
 pub mod rng;
 pub mod words;

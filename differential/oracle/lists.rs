@@ -37,7 +37,11 @@ pub fn write_all(folder: &Path) -> io::Result<()> {
     for (name, text) in LISTS {
         let text = text();
         fs::write(folder.join(name), &text)?;
-        println!("{name}: {} lines, {} bytes", text.lines().count(), text.len());
+        println!(
+            "{name}: {} lines, {} bytes",
+            text.lines().count(),
+            text.len()
+        );
     }
     Ok(())
 }

@@ -8,17 +8,20 @@ const USAGE: &str = "usage: oracle fly < input
        oracle hand
        oracle lists FOLDER
        oracle inputs SEED N
-       oracle flights SEED N";
+       oracle flights SEED N
+       oracle mirror SEED N";
 
 fn main() -> ExitCode {
     let arguments: Vec<String> = std::env::args().skip(1).collect();
     let arguments: Vec<&str> = arguments.iter().map(String::as_str).collect();
     let done = match arguments.as_slice() {
         ["fly"] => fly(),
-        ["hand"] => return hand(),
+        ["hand"] => return held(oracle::hand::check()),
         ["lists", folder] => oracle::lists::write_all(Path::new(folder)),
-        [what @ ("inputs" | "flights"), seed, n] => match (seed.parse(), n.parse()) {
-            (Ok(seed), Ok(n)) => inputs(seed, n, *what == "flights"),
+        [what, seed, n] => match (*what, seed.parse(), n.parse()) {
+            ("inputs", Ok(seed), Ok(n)) => inputs(seed, n, false),
+            ("flights", Ok(seed), Ok(n)) => inputs(seed, n, true),
+            ("mirror", Ok(seed), Ok(n)) => return held(oracle::mirror::check(seed, n)),
             _ => return usage(),
         },
         _ => return usage(),
@@ -48,8 +51,8 @@ fn fly() -> io::Result<()> {
     out.flush()
 }
 
-fn hand() -> ExitCode {
-    if oracle::hand::check() {
+fn held(all: bool) -> ExitCode {
+    if all {
         ExitCode::SUCCESS
     } else {
         ExitCode::FAILURE

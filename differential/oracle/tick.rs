@@ -85,7 +85,12 @@ fn wing(airframe: &Airframe, state: &State) -> FixedWing {
         lift: None,
     };
     let no_rows = TableMixer::new([]);
-    let mut wing = FixedWing::new(model(airframe), &no_rows, rotors, UnitQuaternion::identity());
+    let mut wing = FixedWing::new(
+        model(airframe),
+        &no_rows,
+        rotors,
+        UnitQuaternion::identity(),
+    );
     let motors = wing.motors_mut();
     motors.set_slots(airframe.used, airframe.torques);
     motors.set_running(state.motors);

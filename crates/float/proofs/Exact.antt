@@ -14,7 +14,7 @@ use native.Mathlib.Nat.{le-of-suc-le-suc, le-refl, lt-of-lt-of-le, lt-of-not-le,
 use native.Mathlib.Omega.{arith}
 use Rattle.float.proofs.Integers.{small}
 use Rattle.float.proofs.Order.{Cross, le-trans-float, nn, pp}
-use Rattle.float.proofs.Rounding.{Parts, Rounds, mul-anti-r, mul-mono-r, mul-rounds, own-parts, parts-le, parts-of, round-zero, rounds-mono}
+use Rattle.float.proofs.Rounding.{Parts, Rounds, mul-anti-r, mul-mono-r, mul-rounds, own-parts, parts-le, parts-of, rounds-mono, zero-value}
 use Rattle.float.specs.Notation.{nought, one}
 
 no-more : (a b : ℕ) → 2 ^ a ≤ 2 ^ b → a ≤ b
@@ -25,7 +25,7 @@ back a b h = omega arith
 
 own-value : (f : Format) (s : Bool) (m : ℕ) (e : ℤ) → T (fits f (fin s m e)) → HasValue (round f s (m * up e) (down e)) s (m * up e) (down e)
 unfolding fits
-own-value f s zero e h = rw (zero-mul (up e)) (round-zero f s (down e) (down-pos e))
+own-value f s zero e h = rw (zero-mul (up e)) (zero-value f s (down e) (down-pos e))
 own-value f s (suc m) (pos k) h =
     let a : Bool = eqb (suc m % 2) 1 in
     let b : Bool = ltb (suc m) (2 ^ prec f) in

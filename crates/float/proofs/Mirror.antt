@@ -1,15 +1,14 @@
 -- The mirror calculus: one law of `Rel` for each operation, test and choice, and the rule set by which the mirror law of a formula is one line, `search mirror`. Assumes nothing.
-use Prim.Native.Nat.{_*_, _+_, suc, suc-le-suc, zero, zero-le, ℕ}
-use lib.Dec.{T, eqb, eqb-refl, leb·suc-zero, ltb, lt→ltb}
+use Prim.Native.Nat.{_*_, _+_, suc, zero, ℕ}
+use lib.Dec.{T, eqb, eqb-refl, leb·suc-zero, ltb}
 use lib.Ieee.{Float, Format, add, binary32, div, down, eq, fin, inf, isNan, le, lt, mul, nan, neg, round, sub, sum, unlike, up}
-use lib.Ieee.Fits.{up-pos}
 use lib.IntN.{ℤ}
 use mathlib.Core.Bool.{Bool, _&&_, _||_, cond, false, not, true}
 use mathlib.Core.Path.{_∙_, _≡_, ap, ap₂, refl, subst, sym}
-use native.Mathlib.Nat.{add-zero, mul-pos, zero-mul}
+use native.Mathlib.Nat.{zero-mul}
 use Rattle.float.proofs.Sign.{div-neg-both, mul-neg-left, mul-neg-right, neg-neg, over, round-over}
 use Rattle.float.proofs.Zeros.{add-cong, add-neg, div-cong, div-neg-left, eq-comm, eq-cong, eq-neg, lt-cong, lt-neg, mul-cong, neg-cong, nonzero, nonzero-num, num-nonzero}
-use Rattle.float.specs.Notation.{clamp, nought, sizeOf}
+use Rattle.float.specs.Notation.{atLeastZero, clamp, nought, sizeOf}
 use Rattle.float.specs.Same.{Rel, flip, num}
 
 -- the sign is +, or it is a NaN
@@ -188,42 +187,32 @@ nonzero-above (fin false m e) (fin true zero d) p h = absurd h
 nonzero-above (fin false m e) (fin false zero d) p h = absurd (subst T (ap (λ (z : ℕ). ltb (m * up e * down d) z) (simp zero-mul) ∙ leb·suc-zero (m * up e * down d)) h)
 nonzero-above (fin false m e) (fin t (suc n) d) p h = tt
 
-test-true : (b : Bool) → T b → b ≡ true
-test-true true t = refl
-test-true false t = absurd t
+sizeOf-num : (x : Float) → sizeOf (num x) ≡ sizeOf x
+unfolding sizeOf num
+sizeOf-num nan = refl
+sizeOf-num (inf s) = refl
+sizeOf-num (fin s zero e) = refl
+sizeOf-num (fin s (suc m) e) = refl
 
-below-zero : (m : ℕ) (e : ℤ) → lt (fin true (suc m) e) nought ≡ true
-unfolding lt
-below-zero m e = rw (zero-mul (down e), add-zero) (test-true (ltb 0 (suc m * up e * 1)) (lt→ltb 0 (suc m * up e * 1) (mul-pos (mul-pos (suc-le-suc zero-le) (up-pos e)) (suc-le-suc zero-le))))
-
-above-zero : (m : ℕ) (e : ℤ) → lt (fin false m e) nought ≡ false
-unfolding lt
-above-zero m e = rw (zero-mul (down e)) (leb·suc-zero (m * up e * 1))
-
-size-none : (s : Bool) (e : ℤ) (b : Bool) → num (cond b (neg (fin s zero e)) (fin s zero e)) ≡ fin false zero e
-unfolding num neg
-size-none s e true = refl
-size-none s e false = refl
-
-size-neg : (x : Float) → num (sizeOf (neg x)) ≡ num (sizeOf x)
+sizeOf-flip : (p : Bool) (x : Float) → sizeOf (flip p x) ≡ sizeOf x
 unfolding sizeOf neg
-size-neg nan = unfold lt in refl
-size-neg (inf true) = unfold lt in refl
-size-neg (inf false) = unfold lt in refl
-size-neg (fin s zero e) = size-none (not s) e (lt (fin (not s) zero e) nought) ∙ sym (size-none s e (lt (fin s zero e) nought))
-size-neg (fin true (suc m) e) = rw (below-zero, above-zero)
-size-neg (fin false (suc m) e) = rw (below-zero, above-zero)
+sizeOf-flip false x = refl
+sizeOf-flip true nan = refl
+sizeOf-flip true (inf s) = refl
+sizeOf-flip true (fin s zero e) = refl
+sizeOf-flip true (fin s (suc m) e) = refl
 
-size-cong : (x y : Float) → Rel false x y → Rel false (sizeOf x) (sizeOf y)
-unfolding sizeOf
-size-cong x y h = r-cond (lt x nought) (lt y nought) (r-lt h (r-same nought)) (r-neg h) h
+-- the same number and the opposite one have one size, as data
+pub size-is : {p : Bool} {x x' : Float} → Rel p x x' → sizeOf x' ≡ sizeOf x
+size-is {p} {x} {x'} h = sym (sizeOf-num x') ∙ ap sizeOf (h .same) ∙ sizeOf-num (flip p x) ∙ sizeOf-flip p x
 
 pub r-size : {p : Bool} {x x' : Float} → Rel p x x' → Rel false (sizeOf x) (sizeOf x')
-r-size {p} {x} {x'} h = record { same = size-cong (flip p x) x' (record { same = h .same }) .same ∙ step p }
-  where
-    step : (p : Bool) → num (sizeOf (flip p x)) ≡ num (sizeOf x)
-    step true = size-neg x
-    step false = refl
+r-size h = r-is (size-is h)
+
+-- max(a, 0)
+pub r-at-least-zero : {x x' : Float} → Rel false x x' → Rel false (atLeastZero x) (atLeastZero x')
+unfolding atLeastZero
+r-at-least-zero {x} {x'} h = r-cond (lt nought x) (lt nought x') (r-lt (r-same nought) h) h (r-same nought)
 
 -- ---- a clamp to [-l, l]
 -- above l and below -l: not both
@@ -306,6 +295,10 @@ add-plus f (fin true m e) (fin t n d) p q = absurd p
 add-plus f (fin false m e) (fin true n d) p q = absurd q
 add-plus f (fin false m e) (fin false n d) p q = unfold sum in round-plus f (m * up e * down d + n * up d * down e) (down e * down d)
 
+test-true : (b : Bool) → T b → b ≡ true
+test-true true t = refl
+test-true false t = absurd t
+
 -- ---- in Rust's words: `y == x` or `y == -x`, unless x is a NaN, and then y is one
 eq-self : (x : Float) → isNan x ≡ false → eq x x ≡ true
 unfolding eq isNan
@@ -335,4 +328,4 @@ rel-nan {p} {x} {y} h = sym (isNan-num y) ∙ ap isNan (h .same) ∙ isNan-num (
 pub rel-equal : {p : Bool} {x y : Float} → Rel p x y → isNan x ≡ false → eq y (flip p x) ≡ true
 rel-equal {p} {x} {y} h n = eq-cong y (flip p x) (flip p x) (flip p x) (h .same) refl ∙ eq-self (flip p x) (isNan-flip p x ∙ n)
 
-pub ruleset mirror = (tt, r-same, r-zero, r-add, r-sub, r-neg, mul-ss, mul-oo, mul-so, mul-os, r-div, div-ss, div-oo, div-so, div-os, nonzero-above, r-if, r-lt, r-lt-opp, r-le, r-le-opp, r-eq, same-and, same-or, same-not)
+pub ruleset mirror = (tt, r-same, r-zero, r-add, r-sub, r-neg, mul-ss, mul-oo, mul-so, mul-os, r-div, div-ss, div-oo, div-so, div-os, nonzero-above, r-if, r-lt, r-lt-opp, r-le, r-le-opp, r-eq, same-and, same-or, same-not, r-size, r-at-least-zero)

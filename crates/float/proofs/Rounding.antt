@@ -58,8 +58,8 @@ le-parts x y p n c q m d h k l =
 pub own-parts : (x : Float) → T (finite x) → Parts x (pp x) (nn x) (den x)
 own-parts x h = record { fine = h; plus = refl; minus = refl }
 
-pub round-zero : (f : Format) (s : Bool) (c : ℕ) → 0 < c → HasValue (round f s 0 c) s 0 c
-round-zero f s c C = round-exact f s 0 c 0 0 C (pow-pos (prec f)) (pow-pos (low f + suc (emax f))) (zero-mul (2 ^ low f) ∙ sym (zero-mul c))
+pub zero-value : (f : Format) (s : Bool) (c : ℕ) → 0 < c → HasValue (round f s 0 c) s 0 c
+zero-value f s c C = round-exact f s 0 c 0 0 C (pow-pos (prec f)) (pow-pos (low f + suc (emax f))) (zero-mul (2 ^ low f) ∙ sym (zero-mul c))
 
 -- ---- x is (p - n) / c rounded
 pub record Rounds (f : Format) (x : Float) (p n c : ℕ) : Type 0 where
@@ -77,7 +77,7 @@ mono-at f false true a b c d p n q m C D v w h =
     let l : a * d + b * c ≤ 0 = omega (arith, ap (λ (z : ℕ). z * d) v, ap (λ (z : ℕ). z * c) w) in
     let x : a ≡ 0 = none a d D (omega arith) in
     let y : b ≡ 0 = none b c C (omega arith) in
-    rw (x, y) (parts-le (round f false 0 c) (round f true 0 d) 0 0 c 0 0 d C D (parts-of (round f false 0 c) false 0 c (round-zero f false c C)) (parts-of (round f true 0 d) true 0 d (round-zero f true d D)) (omega arith))
+    rw (x, y) (parts-le (round f false 0 c) (round f true 0 d) 0 0 c 0 0 d C D (parts-of (round f false 0 c) false 0 c (zero-value f false c C)) (parts-of (round f true 0 d) true 0 d (zero-value f true d D)) (omega arith))
   where
     none : (k z : ℕ) → 0 < z → k * z ≤ 0 → k ≡ 0
     none k z Z g = elim (eq-zero-or-pos k) [ inl e ↦ e | inr l ↦ absurd (not-le-of-lt (mul-pos l Z) g) ]

@@ -148,7 +148,7 @@ unfolding odd
 odd-over d zero k l = tt
 odd-over d (suc q) k l = tt
 
-units-over : (f : Format) (q k : ℕ) → T (over (units f false q k))
+pub units-over : (f : Format) (q k : ℕ) → T (over (units f false q k))
 unfolding units
 units-over f q k = go (ltb (q * 2 ^ k) (2 ^ (low f + suc (emax f))))
   where

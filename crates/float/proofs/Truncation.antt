@@ -1,18 +1,22 @@
 -- Cutting a float to an integer keeps the order, and a zero's sign does not matter to it. Assumes nothing.
 use Prim.Native.Nat.{_*_, _+_, _-_, _/_, _<_, _^_, _≤_, min, suc, zero, zero-le, ℕ}
 use lib.Dec.{T, le→leb}
-use lib.Ieee.{Float, down, fin, inf, le, nan, toSigned, up}
+use lib.Ieee.{Float, binary32, down, fin, inf, le, nan, ofInt, toSigned, up}
 use lib.Ieee.Fits.{down-pos}
 use lib.Ieee.Nearest.{div-mono}
 use lib.Ieee.Scale.{finite}
-use lib.IntN.{negℤ, pos}
+use lib.IntN.{negℤ, pos, ℤ}
 use lib.Signed.{leZ}
-use mathlib.Core.Bool.{false, true}
+use mathlib.Core.Bool.{Bool, false, true}
 use mathlib.Core.Logic.{inl, inr}
-use mathlib.Core.Path.{_≡_}
-use native.Mathlib.Nat.{eq-zero-or-pos, le-of-suc-le-suc, le-refl, mul-pos, not-le-of-lt, zero-div}
+use mathlib.Core.Path.{_∙_, _≡_, ap, refl, sym}
+use native.Mathlib.Nat.{eq-zero-or-pos, le-of-suc-le-suc, le-refl, mul-pos, not-le-of-lt, zero-div, zero-mul}
 use native.Mathlib.Omega.{arith}
+use Rattle.float.proofs.Mirror.{r-cond, r-is, r-lt, r-same, same-and}
 use Rattle.float.proofs.Order.{le→cross}
+use Rattle.float.specs.Notation.{nought}
+use Rattle.float.specs.Same.{Rel, num}
+use Rattle.float.specs.Whole.{wholePart}
 
 min-mono : (a b c : ℕ) → a ≤ b → min a c ≤ min b c
 min-mono a b c h = omega arith
@@ -55,3 +59,25 @@ toSigned-mono h (fin true m e) (fin true n d) p q l =
 toSigned-mono h (fin false m e) (fin true n d) p q l =
     let z = both-none (m * up e) (n * up d) (down e) (down d) (down-pos e) (down-pos d) (omega (arith, le→cross (fin false m e) (fin true n d) tt tt l)) in
     rw (z .0, z .1, zero-div (down e), zero-div (down d), min-zero (2 ^ h - 1), min-zero (2 ^ h)) tt
+
+-- ---- the sign of a zero
+none-cut : (h : ℕ) (s : Bool) (e : ℤ) → toSigned h (fin s zero e) ≡ pos 0
+unfolding toSigned
+none-cut h true e = rw (zero-mul (up e), zero-div (down e), min-zero (2 ^ h))
+none-cut h false e = rw (zero-mul (up e), zero-div (down e), min-zero (2 ^ h - 1))
+
+toSigned-num : (h : ℕ) (x : Float) → toSigned h (num x) ≡ toSigned h x
+unfolding num
+toSigned-num h nan = refl
+toSigned-num h (inf s) = refl
+toSigned-num h (fin s zero e) = none-cut h false e ∙ sym (none-cut h s e)
+toSigned-num h (fin s (suc m) e) = refl
+
+pub r-truncate : {x x' : Float} (h : ℕ) → Rel false x x' → toSigned h x' ≡ toSigned h x
+r-truncate {x} {x'} h r = sym (toSigned-num h x') ∙ ap (toSigned h) (r .same) ∙ toSigned-num h x
+
+pub r-whole : {x x' : Float} → Rel false x x' → Rel false (wholePart x) (wholePart x')
+unfolding wholePart
+r-whole {x} {x'} r =
+    r-cond _ _ (same-and _ _ _ _ (r-lt (r-same (fin true 1 (pos 24))) r) (r-lt r (r-same (fin false 1 (pos 24)))))
+    (r-is (ap (ofInt binary32) (r-truncate 63 r))) (r-same nought)

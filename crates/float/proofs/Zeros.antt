@@ -1,15 +1,16 @@
 -- Each operation and each test gives the same number whatever the sign of a zero in it, a divisor apart, and meets `neg` as a number does. Assumes nothing.
-use Prim.Native.Nat.{_*_, _+_, _-_, _^_, _≤_, compare, compare·zero-suc, suc, zero, ℕ}
+use Prim.Native.Nat.{_*_, _+_, _-_, _<_, _^_, _≤_, compare, compare·zero-suc, suc, suc-le-suc, zero, zero-le, ℕ}
 use lib.Dec.{T, eqb, eqb·suc-suc, eqb·suc-zero, eqb·zero-suc, eqb→eq, leb·suc-zero, ltb, lt→ltb, nltb→le}
 use lib.Ieee.{Float, Format, add, below, div, down, emax, eq, fin, inf, level, low, lt, mul, nan, nearest, neg, round, sum, units, unlike, up}
-use lib.Ieee.Fits.{round-is}
-use lib.IntN.{pos}
+use lib.Ieee.Fits.{and-l, round-is, up-pos}
+use lib.IntN.{pos, ℤ}
 use lib.Pow.{pow-pos}
 use mathlib.Core.Bool.{Bool, Bool·beq, _&&_, _||_, cond, false, not, true}
-use mathlib.Core.Path.{_∙_, _≡_, ap, ap₂, refl, sym}
-use native.Mathlib.Nat.{add-comm, add-zero, zero-add, zero-div, zero-mod, zero-mul}
+use mathlib.Core.Path.{_∙_, _≡_, ap, ap₂, refl, subst, sym}
+use native.Mathlib.Nat.{add-comm, add-zero, lt-irrefl, mul-pos, zero-add, zero-div, zero-mod, zero-mul}
 use native.Mathlib.Omega.{arith}
-use Rattle.float.proofs.Sign.{add-comm-exact, mul-comm-exact, neg-cond, round-neg, unlike-not}
+use Rattle.float.proofs.Sign.{add-comm-exact, mul-comm-exact, neg-cond, over, round-neg, unlike-not}
+use Rattle.float.specs.Notation.{nought}
 use Rattle.float.specs.Same.{num}
 
 nearest-zero : (u : ℕ) → nearest 0 (compare 0 u) ≡ 0
@@ -24,7 +25,7 @@ units-zero : (f : Format) (s : Bool) (k : ℕ) → units f s 0 k ≡ fin s 0 (po
 unfolding units
 units-zero f s k = rw (zero-mul, test-true (ltb 0 (2 ^ (low f + suc (emax f)))) (lt→ltb 0 (2 ^ (low f + suc (emax f))) (pow-pos (low f + suc (emax f)))))
 
-round-zero : (f : Format) (s : Bool) (c : ℕ) → round f s 0 c ≡ fin s 0 (pos 0)
+pub round-zero : (f : Format) (s : Bool) (c : ℕ) → round f s 0 c ≡ fin s 0 (pos 0)
 round-zero f s c = round-is f s 0 c ∙ simp (zero-mul, zero-div, zero-mod, nearest-zero, units-zero)
 
 pub round-none : (f : Format) (s : Bool) (a c : ℕ) → a ≡ 0 → num (round f s a c) ≡ fin false 0 (pos 0)
@@ -359,3 +360,50 @@ eq-comm (inf s) (fin t n d) = refl
 eq-comm (fin s m e) nan = refl
 eq-comm (fin s m e) (inf t) = refl
 eq-comm (fin s m e) (fin t n d) = level-comm s t (m * up e * down d) (n * up d * down e)
+
+-- ---- comparison with zero
+pub plus-not-below : (m : ℕ) (e : ℤ) → lt (fin false m e) nought ≡ false
+unfolding lt
+plus-not-below m e = rw (zero-mul (down e)) (leb·suc-zero (m * up e * 1))
+
+pub zero-not-below : (s : Bool) (e : ℤ) → lt (fin s zero e) nought ≡ false
+zero-not-below s e = sym (lt-left (fin s zero e) nought) ∙ (unfold num in plus-not-below zero e)
+
+some-size : (m : ℕ) (e : ℤ) → 0 < suc m * up e * 1
+some-size m e = mul-pos (mul-pos (suc-le-suc zero-le) (up-pos e)) (suc-le-suc zero-le)
+
+pub minus-below : (m : ℕ) (e : ℤ) → lt (fin true (suc m) e) nought ≡ true
+unfolding lt
+minus-below m e = rw (zero-mul (down e), add-zero) (test-true (ltb 0 (suc m * up e * 1)) (lt→ltb 0 (suc m * up e * 1) (some-size m e)))
+
+pub zero-is-zero : (s : Bool) (e : ℤ) → eq (fin s zero e) nought ≡ true
+zero-is-zero s e = sym (eq-left (fin s zero e) nought) ∙ (unfold num eq in simp zero-mul)
+
+test-false : (b : Bool) → (T b → ⊥) → b ≡ false
+test-false true h = absurd (h tt)
+test-false false h = refl
+
+pub some-not-zero : (s : Bool) (m : ℕ) (e : ℤ) → eq (fin s (suc m) e) nought ≡ false
+unfolding eq
+some-not-zero s m e = test-false (level s (suc m * up e * 1) false (0 * down e)) (λ t. lt-irrefl 0 (subst (λ (n : ℕ). 0 < n) (eqb→eq (suc m * up e * 1) (0 * down e) (and-l (eqb (suc m * up e * 1) (0 * down e)) _ t) ∙ zero-mul (down e)) (some-size m e)))
+
+-- not on both sides of zero
+pub below-not-above : (x : Float) → T (lt x nought) → T (not (lt nought x))
+unfolding lt
+below-not-above nan h = tt
+below-not-above (inf true) h = tt
+below-not-above (inf false) h = absurd h
+below-not-above (fin true m e) h = tt
+below-not-above (fin false m e) h = absurd (subst T (plus-not-below m e) (unfold lt in h))
+
+pub plus-above : (m : ℕ) (e : ℤ) → lt nought (fin false (suc m) e) ≡ true
+unfolding lt
+plus-above m e = rw (zero-mul (down e)) (test-true (ltb 0 (suc m * up e * 1)) (lt→ltb 0 (suc m * up e * 1) (some-size m e)))
+
+-- what has the sign + is not below zero
+pub over-not-below : (x : Float) → T (over x) → lt x nought ≡ false
+over-not-below nan h = absurd h
+over-not-below (inf true) h = absurd h
+over-not-below (inf false) h = unfold lt in refl
+over-not-below (fin true m e) h = absurd h
+over-not-below (fin false m e) h = plus-not-below m e

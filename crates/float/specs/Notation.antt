@@ -1,7 +1,7 @@
 -- The notation of all definitions: 32-bit IEEE 754 operations, each rounded once, and constants rounded once (01, "Blocks" and "Numbers the Rust takes from elsewhere").
 -- Definitions only.
-use Prim.Native.Nat.{ℕ}
-use lib.Ieee.{Float, add, binary32, div, fin, lt, mul, neg, ofBits, round, sub}
+use Prim.Native.Nat.{suc, zero, ℕ}
+use lib.Ieee.{Float, add, binary32, div, fin, inf, lt, mul, nan, ofBits, round, sub}
 use lib.IntN.{negsuc, pos}
 use mathlib.Core.Bool.{cond, false, true}
 
@@ -45,9 +45,12 @@ half = fin false 1 (negsuc 0)
 abbrev pub two : Float
 two = fin false 1 (pos 1)
 
--- the size of a number, |x|
+-- the size of a number, |x|: without its sign
 unfoldable pub sizeOf : Float → Float
-sizeOf x = cond (lt x nought) (neg x) x
+sizeOf nan = nan
+sizeOf (inf s) = inf false
+sizeOf (fin s zero e) = nought
+sizeOf (fin s (suc m) e) = fin false (suc m) e
 
 -- max(a, 0): a if a > 0, else +0, also for a NaN
 unfoldable pub atLeastZero : Float → Float

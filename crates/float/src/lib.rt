@@ -105,7 +105,13 @@ pub fn power_of_two(k: i64) -> f32
 pub fn size(x: f32) -> f32
     ensures { λ r. ⌜ r ≡ Notation.sizeOf x ⌝ }
 {
-    if x < 0.0 { -x } else { x }
+    if x < 0.0 {
+        return -x;
+    }
+    if x == 0.0 {
+        return 0.0;
+    }
+    x
 }
 
 // x where it is above 0, else +0, also for a NaN.

@@ -35,12 +35,17 @@ fn hand_made() -> Vec<Vec<u8>> {
 /// Every version, falloff kind, reserved bit and row count too many: the two bytes alone, since
 /// a bad header is answered whatever follows.
 fn headers() -> Vec<Vec<u8>> {
-    let mut all: Vec<u16> = (0..16).filter(|version| *version != 1).map(|v| v << 12).collect();
+    let mut all: Vec<u16> = (0..16)
+        .filter(|version| *version != 1)
+        .map(|v| v << 12)
+        .collect();
     all.extend([0x1800, 0x1C00, 0x1A00, 0x1100, 0x1080, 0x1040, 0x1020]);
     all.extend((17..32).map(|rows| 0x1000 | rows));
     // Two at once: the earlier one answers.
     all.extend([0x2C00, 0x1D00, 0x1111, 0x0FFF]);
-    all.into_iter().map(|bits| bits.to_be_bytes().to_vec()).collect()
+    all.into_iter()
+        .map(|bits| bits.to_be_bytes().to_vec())
+        .collect()
 }
 
 /// One bad row bit of each kind, in the first or the second row, over a number out of range.
@@ -104,7 +109,11 @@ fn airframes_outside() -> Vec<Vec<u8>> {
     let mut all = Vec::new();
     for place in 1..=48 {
         for bad in outside(limits::airframe(place, false)) {
-            let mut block = if place < 42 { hand::plain() } else { with_wash() };
+            let mut block = if place < 42 {
+                hand::plain()
+            } else {
+                with_wash()
+            };
             set(&mut block, place, bad);
             all.push(block.bytes());
         }
@@ -123,7 +132,13 @@ fn outside((low, high): Range) -> [f32; 2] {
 /// Row factors at and around their limits.
 fn factors() -> Vec<Vec<u8>> {
     let good = [0.0, -0.0, 0.01, -0.01, 10.0, -10.0];
-    let bad = [0.01f32.next_down(), 10f32.next_up(), 1.0e-45, f32::NAN, f32::INFINITY];
+    let bad = [
+        0.01f32.next_down(),
+        10f32.next_up(),
+        1.0e-45,
+        f32::NAN,
+        f32::INFINITY,
+    ];
     let mut all = Vec::new();
     for (at, factor) in good.into_iter().chain(bad).enumerate() {
         let mut factors = [0.0; 3];
@@ -174,7 +189,13 @@ fn norms() -> Vec<Vec<u8>> {
     let mut all = Vec::new();
     for norm in [0.9f32, 1.1] {
         let w = norm.sqrt();
-        for w in [w.next_down().next_down(), w.next_down(), w, w.next_up(), w.next_up().next_up()] {
+        for w in [
+            w.next_down().next_down(),
+            w.next_down(),
+            w,
+            w.next_up(),
+            w.next_up().next_up(),
+        ] {
             let state = State {
                 attitude: [w, 0.0, 0.0, 0.0],
                 ..hand::at_rest()
@@ -188,7 +209,17 @@ fn norms() -> Vec<Vec<u8>> {
 /// Steps around their limits, one flight.
 fn steps() -> Vec<Vec<u8>> {
     let (low, high) = limits::STEP_S;
-    let steps = [low, low.next_down(), high, high.next_up(), 0.0201, 0.0, -low, f32::NAN, high];
+    let steps = [
+        low,
+        low.next_down(),
+        high,
+        high.next_up(),
+        0.0201,
+        0.0,
+        -low,
+        f32::NAN,
+        high,
+    ];
     let mut bytes = hand::plain().bytes();
     bytes.extend(state_bytes(&hand::at_rest()));
     for step in steps {

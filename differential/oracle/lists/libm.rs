@@ -7,7 +7,8 @@ use crate::words::case;
 const HOW: &str = "compare as numbers: zeros alike, NaNs alike.";
 
 fn unary(name: &str, how: &str, f: fn(f32) -> f32, fixed: Vec<f32>, limit: f32) -> String {
-    let mut text = format!("# {name}: argument > answer. Made by differential/lists ({how}); {HOW}\n");
+    let mut text =
+        format!("# {name}: argument > answer. Made by differential/lists ({how}); {HOW}\n");
     let mut rng = Rng::new(name.bytes().map(u64::from).sum());
     let random = (0..200).map(|_| arguments::random(&mut rng, limit));
     for x in fixed.into_iter().chain(random) {

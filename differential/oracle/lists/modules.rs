@@ -58,7 +58,10 @@ pub fn lag_factor() -> String {
     }
     let mut rng = Rng::new(11);
     for _ in 0..150 {
-        add(rng.between(limits::STEP_S.0, limits::STEP_S.1), rng.between(0.001, 1.0));
+        add(
+            rng.between(limits::STEP_S.0, limits::STEP_S.1),
+            rng.between(0.001, 1.0),
+        );
     }
     for _ in 0..150 {
         add(mostly(&mut rng, 0.0, 0.02), mostly(&mut rng, 0.001, 10.0));
@@ -72,14 +75,25 @@ pub fn approach_saturated() -> String {
     for index in 0..400 {
         let low = if index % 2 == 0 { 0.0 } else { -1.0 };
         let wild = index % 4 < 2;
-        let value = if wild { mostly(&mut rng, low, 1.0) } else { rng.between(low, 1.0) };
+        let value = if wild {
+            mostly(&mut rng, low, 1.0)
+        } else {
+            rng.between(low, 1.0)
+        };
         let command = mostly(&mut rng, low, 1.0);
-        let alpha = if wild { mostly(&mut rng, 0.0, 1.0) } else { rng.between(0.0, 1.0) };
+        let alpha = if wild {
+            mostly(&mut rng, 0.0, 1.0)
+        } else {
+            rng.between(0.0, 1.0)
+        };
         let mut after = value;
         lag::approach_saturated(&mut after, command, &(low..=1.0), 0.0, alpha);
         cases.push(case(&[value, command, low, 1.0, alpha], &[after]));
     }
-    list("approach_saturated: value command low high alpha > value", cases)
+    list(
+        "approach_saturated: value command low high alpha > value",
+        cases,
+    )
 }
 
 fn vectors(numbers: &[f32]) -> [Vec3; SLOTS] {
@@ -132,7 +146,11 @@ fn motors_case(rng: &mut Rng) -> String {
     let (pitch_speed, number, max_thrust) = prop(rng);
     let wild = rng.once_in(4);
     let speed = mostly(rng, -5.0, 30.0);
-    let factor = if wild { mostly(rng, 0.0, 1.0) } else { rng.between(0.0, 1.0) };
+    let factor = if wild {
+        mostly(rng, 0.0, 1.0)
+    } else {
+        rng.between(0.0, 1.0)
+    };
     let used: [bool; SLOTS] = core::array::from_fn(|_| !rng.once_in(3));
     let torques: [f32; 24] = core::array::from_fn(|_| finite(rng, -1.0, 1.0));
     let running: [f32; SLOTS] = if wild {
@@ -148,7 +166,13 @@ fn motors_case(rng: &mut Rng) -> String {
     motors.set_running(running);
     motors.spin(&commands, factor);
     let (thrust, torque) = motors.wrench_with(|share| model.falloff_share(share, speed));
-    let mut words = vec![whole(usize::from(pitch_speed)), number, max_thrust, speed, factor];
+    let mut words = vec![
+        whole(usize::from(pitch_speed)),
+        number,
+        max_thrust,
+        speed,
+        factor,
+    ];
     words.extend(used.map(|used| whole(usize::from(used))));
     words.extend(torques);
     words.extend(running);
@@ -178,7 +202,9 @@ fn mix_rows(rows: &[Row]) -> Vec<MixRow> {
             Slot::Motor(row.slot)
         }
     };
-    rows.iter().map(|row| MixRow::new(slot(row), row.factors)).collect()
+    rows.iter()
+        .map(|row| MixRow::new(slot(row), row.factors))
+        .collect()
 }
 
 fn some_rows(rng: &mut Rng, most: usize) -> Vec<Row> {
@@ -210,7 +236,9 @@ pub fn motor_rows() -> String {
 
 pub fn surfaces() -> String {
     let mut rng = Rng::new(15);
-    let cases = (0..110).map(|index| surfaces_case(&mut rng, index)).collect();
+    let cases = (0..110)
+        .map(|index| surfaces_case(&mut rng, index))
+        .collect();
     list(
         "surfaces: row count, then for each row kind (0 motor, 1 servo) slot roll pitch yaw; \
          then running 8, commands 8, factor, max deflection 3 > weights 8 x 3, running 8, \
@@ -348,7 +376,11 @@ pub fn stall_blend() -> String {
         }
     }
     for _ in 0..120 {
-        add(rng.between(0.0, 1.6), rng.between(0.0, 100.0), mostly(&mut rng, -1.0, 1.0));
+        add(
+            rng.between(0.0, 1.6),
+            rng.between(0.0, 100.0),
+            mostly(&mut rng, -1.0, 1.0),
+        );
     }
     for _ in 0..60 {
         add(0.4, rng.between(0.0, 1000.0), rng.between(0.3, 0.5));
@@ -366,7 +398,11 @@ fn air(rng: &mut Rng) -> [f32; 3] {
         3 => core::array::from_fn(|_| rng.scaled(-80, 0)),
         4 => core::array::from_fn(|_| rng.scaled(-10, 64)),
         5 => [0.0, speed, 0.0],
-        6 => [speed, rng.between(-8.0, 8.0), speed * rng.between(-1.0, 1.0)],
+        6 => [
+            speed,
+            rng.between(-8.0, 8.0),
+            speed * rng.between(-1.0, 1.0),
+        ],
         7 => core::array::from_fn(|_| rng.between(-1000.0, 1000.0)),
         _ => [speed, rng.between(-3.0, 3.0), rng.between(-4.0, 4.0)],
     }
@@ -476,5 +512,8 @@ pub fn rotate() -> String {
         answers.extend(array(back));
         cases.push(case(&words, &answers));
     }
-    list("rotate: attitude w i j k, vector 3 > turned 3, turned by the inverse 3", cases)
+    list(
+        "rotate: attitude w i j k, vector 3 > turned 3, turned by the inverse 3",
+        cases,
+    )
 }
