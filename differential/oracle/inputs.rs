@@ -228,6 +228,10 @@ pub fn airframe(rng: &mut Rng) -> AirframeBlock {
     if plausible && pitch_speed {
         numbers[36] = rng.between(12.0, 40.0);
     }
+    // A soft stall, so that both sides of the blend count.
+    if plausible && rng.once_in(3) {
+        numbers[10] = rng.between(0.0, 4.0);
+    }
     AirframeBlock {
         pitch_speed,
         numbers,
@@ -299,7 +303,7 @@ pub fn state(rng: &mut Rng) -> State {
     match rng.below(8) {
         0 => state.attitude = attitude(yaw, degrees(rng, -5.0, 5.0), 180.0),
         1 => state.attitude = attitude(yaw, degrees(rng, 15.0, 80.0), degrees(rng, -90.0, 90.0)),
-        2 => tail_first(rng, &mut state),
+        2 | 5 => tail_first(rng, &mut state),
         3 => at_rest(rng, &mut state),
         4 => at_edge(rng, &mut state),
         _ => {}

@@ -385,6 +385,13 @@ pub fn stall_blend() -> String {
     for _ in 0..60 {
         add(0.4, rng.between(0.0, 1000.0), rng.between(0.3, 0.5));
     }
+    for _ in 0..120 {
+        add(
+            rng.between(0.0, 1.6),
+            rng.between(0.0, 3.0),
+            rng.between(-3.1, 3.1),
+        );
+    }
     list("stall_blend: alpha stall, sharpness, alpha > blend", cases)
 }
 
