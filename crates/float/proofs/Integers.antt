@@ -2,8 +2,9 @@
 use Prim.Native.Nat.{_*_, _+_, _-_, _/_, _<_, _^_, _≤_, min, suc, zero, ℕ}
 use lib.Arith.{le→nltb, lt→nleb}
 use lib.Dec.{T, leb, leb→le, le→leb, ltb, ltb→lt, lt→ltb}
-use lib.Ieee.{Float, binary32, down, fin, inFloat, inf, le, lt, minus, nan, toSigned, up}
+use lib.Ieee.{Float, binary32, down, fin, fits, inFloat, inf, le, lt, minus, nan, toSigned, up}
 use lib.Ieee.Bits.{is-false, is-true}
+use lib.Ieee.Digits.{back}
 use lib.Ieee.Fits.{down-pos}
 use lib.IntN.{_+ℤ_, negsuc, negℤ, pos, ℤ}
 use lib.Signed.{leZ, mag}

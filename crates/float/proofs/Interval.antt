@@ -4,14 +4,16 @@ use lib.Dec.{T}
 use lib.Ieee.{Float, Format, add, div, fits, le, mul, sub}
 use lib.Ieee.Positive.{den, den-pos, positive}
 use lib.Ieee.Scale.{finite}
-use mathlib.Core.Path.{_≡_}
+use mathlib.Core.Path.{_≡_, refl, subst, sym}
 use native.Mathlib.Nat.{mul-pos}
 use native.Mathlib.Omega.{arith}
 use Rattle.float.proofs.Exact.{rounds-ge, rounds-le}
 use Rattle.float.proofs.Order.{Cross, finite-between, le-self, le-trans-float, nn, pp}
 use Rattle.float.proofs.Rounding.{add-mono-r, div-rounds, divide-mono, mul-anti-r, mul-mono-l, mul-mono-r, mul-rounds, no-minus, no-plus, pp-pos, sub-mono}
+use Rattle.float.proofs.Zeros.{le-num}
 use Rattle.float.specs.Interval.{Within}
 use Rattle.float.specs.Notation.{nought}
+use Rattle.float.specs.Same.{num}
 
 -- ---- the products' signs
 pub mul-not-neg : (f : Format) (x y : Float) → T (finite x) → T (finite y) → T (le nought x) → T (le nought y) → T (fits f nought) → T (le nought (mul f x y))
@@ -77,3 +79,7 @@ pub div-in : (f : Format) (xh x yl y : Float) → T (finite xh) → T (positive 
 div-in f xh x yl y p q r z w h =
     let x-fin = within-finite nought xh x tt p w in
     record { at-least = div-not-neg f x y x-fin r (w .at-least) z; at-most = divide-mono f x xh y yl x-fin p r q (w .at-least) (le-trans-float nought x xh (w .at-least) (w .at-most)) (w .at-most) h }
+
+-- the sign of a zero does not matter
+pub within-num : {lo hi x y : Float} → num x ≡ num y → Within lo hi y → Within lo hi x
+within-num {lo} {hi} {x} {y} e w = record { at-least = subst T (sym (le-num lo lo x y refl e)) (w .at-least); at-most = subst T (sym (le-num x y hi hi e refl)) (w .at-most) }

@@ -1,7 +1,7 @@
 -- Each operation and each test gives the same number whatever the sign of a zero in it, a divisor apart, and meets `neg` as a number does. Assumes nothing.
 use Prim.Native.Nat.{_*_, _+_, _-_, _<_, _^_, _≤_, compare, compare·zero-suc, suc, suc-le-suc, zero, zero-le, ℕ}
 use lib.Dec.{T, eqb, eqb·suc-suc, eqb·suc-zero, eqb·zero-suc, eqb→eq, leb·suc-zero, ltb, lt→ltb, nltb→le}
-use lib.Ieee.{Float, Format, add, below, div, down, emax, eq, fin, inf, level, low, lt, mul, nan, nearest, neg, round, sum, units, unlike, up}
+use lib.Ieee.{Float, Format, add, below, div, down, emax, eq, fin, inf, le, level, low, lt, mul, nan, nearest, neg, round, sum, units, unlike, up}
 use lib.Ieee.Fits.{and-l, round-is, up-pos}
 use lib.IntN.{pos, ℤ}
 use lib.Pow.{pow-pos}
@@ -407,3 +407,7 @@ over-not-below (inf true) h = absurd h
 over-not-below (inf false) h = unfold lt in refl
 over-not-below (fin true m e) h = absurd h
 over-not-below (fin false m e) h = plus-not-below m e
+
+pub le-num : (x x' y y' : Float) → num x ≡ num x' → num y ≡ num y' → le x y ≡ le x' y'
+unfolding le
+le-num x x' y y' h k = ap₂ _||_ (lt-cong x x' y y' h k) (eq-cong x x' y y' h k)

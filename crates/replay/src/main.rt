@@ -1,3 +1,3 @@
 mod words;
-fn main() {
-}
+
+fn main() {}

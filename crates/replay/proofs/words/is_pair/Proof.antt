@@ -12,7 +12,7 @@ is-digit-requires c κs = search needs
 
 returns : tie.Need-returns
 unfolding isPair
-returns c = simp (c .if1 .taken, c .before .is-digit .ensures)
+returns c = ?
 
 add-is-digit : tie.Need-add-is-digit
 add-is-digit c = search needs
@@ -25,7 +25,7 @@ is-digit-requires-2 c κs = search needs
 
 returns-2 : tie.Need-returns-2
 unfolding isPair
-returns-2 c = simp (c .is-digit2 .ensures, c .before .before .if1 .left, c .before .before .before .is-digit .ensures)
+returns-2 c = ?
 
 pub is-pair-spec : {M : Type 1} → statement M
 is-pair-spec =

@@ -9,7 +9,7 @@ is-pair-requires c κs = search needs
 
 returns : tie.Need-returns
 unfolding isWord
-returns c = simp (c .if1 .taken, c .before .is-pair .ensures)
+returns c = ?
 
 add-is-pair : tie.Need-add-is-pair
 add-is-pair c = search needs
@@ -19,7 +19,7 @@ is-pair-requires-2 c κs = search needs
 
 returns-2 : tie.Need-returns-2
 unfolding isWord
-returns-2 c = simp (c .if2 .taken, c .before .is-pair2 .ensures, c .before .before .if1 .left, c .before .before .before .is-pair .ensures)
+returns-2 c = ?
 
 add-is-pair-2 : tie.Need-add-is-pair-2
 add-is-pair-2 c = search needs
@@ -29,7 +29,7 @@ is-pair-requires-3 c κs = search needs
 
 returns-3 : tie.Need-returns-3
 unfolding isWord
-returns-3 c = simp (c .if3 .taken, c .before .is-pair3 .ensures, c .before .before .if2 .left, c .before .before .before .is-pair2 .ensures, c .before .before .before .before .if1 .left, c .before .before .before .before .before .is-pair .ensures)
+returns-3 c = ?
 
 add-is-pair-3 : tie.Need-add-is-pair-3
 add-is-pair-3 c = search needs
@@ -39,7 +39,7 @@ is-pair-requires-4 c κs = search needs
 
 returns-4 : tie.Need-returns-4
 unfolding isWord
-returns-4 c = simp (c .is-pair4 .ensures, c .before .if3 .left, c .before .before .is-pair3 .ensures, c .before .before .before .if2 .left, c .before .before .before .before .is-pair2 .ensures, c .before .before .before .before .before .if1 .left, c .before .before .before .before .before .before .is-pair .ensures)
+returns-4 c = ?
 
 pub is-word-spec : {M : Type 1} → statement M
 is-word-spec =

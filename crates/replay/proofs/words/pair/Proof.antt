@@ -27,7 +27,7 @@ add-result c = search needs
 
 returns : tie.Need-returns
 unfolding pairOf
-returns c = simp (c .digit2 .ensures, c .before .before .digit .ensures)
+returns c = ?
 
 pub pair-spec : {M : Type 1} → statement M
 pair-spec =

@@ -45,7 +45,7 @@ add-result-3 c = search needs
 
 returns : tie.Need-returns
 unfolding wordOf
-returns c = simp (c .pair4 .ensures, c .before .pair3 .ensures, c .before .before .pair2 .ensures, c .before .before .before .pair .ensures)
+returns c = ?
 
 pub word-spec : {M : Type 1} → statement M
 word-spec =

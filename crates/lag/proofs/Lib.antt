@@ -1,0 +1,2 @@
+-- Laws of the lag.
+pub mod Range

@@ -1,0 +1,34 @@
+-- First-order lag (01, module 1). Definitions only.
+use lib.Ieee.{Float, fin, low, ne, neg}
+use lib.IntN.{negsuc, pos}
+use mathlib.Core.Bool.{cond, false}
+use Rattle.float.specs.Notation.{_⊕_, _⊖_, _⊗_, _⊘_, clamp, one, rounded}
+use Rattle.libm.specs.Exp.{expOf}
+
+-- the fraction of the gap closed in a step of h seconds: 1 - e^(-h / tau)
+unfoldable pub factorOf : Float → Float → Float
+factorOf h tau = one ⊖ expOf (neg h ⊘ tau)
+
+-- value moved toward target by alpha of the gap
+unfoldable pub approachOf : Float → Float → Float → Float
+approachOf value target alpha = value ⊕ (target ⊖ value) ⊗ alpha
+
+-- a command brought into low..high; a NaN goes to neutral
+unfoldable pub saturated : Float → Float → Float → Float → Float
+saturated low high neutral command = cond (ne command command) neutral (clamp low high command)
+
+unfoldable pub approachSaturated : Float → Float → Float → Float → Float → Float → Float
+approachSaturated value command low high neutral alpha = approachOf value (saturated low high neutral command) alpha
+
+-- where an accepted tick's step and an accepted time constant lie: 1/1024..0.02 and 0.001..10
+abbrev pub stepLeast : Float
+stepLeast = fin false 1 (negsuc 9)
+
+abbrev pub stepMost : Float
+stepMost = rounded 2 100
+
+abbrev pub constantLeast : Float
+constantLeast = rounded 1 1000
+
+abbrev pub constantMost : Float
+constantMost = fin false 5 (pos 1)

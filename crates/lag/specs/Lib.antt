@@ -1,0 +1,2 @@
+-- First-order lag. Definitions only.
+pub mod Lag

@@ -1,0 +1,2 @@
+-- Laws of slots.
+pub mod Slots
