@@ -328,4 +328,14 @@ rel-nan {p} {x} {y} h = sym (isNan-num y) ∙ ap isNan (h .same) ∙ isNan-num (
 pub rel-equal : {p : Bool} {x y : Float} → Rel p x y → isNan x ≡ false → eq y (flip p x) ≡ true
 rel-equal {p} {x} {y} h n = eq-cong y (flip p x) (flip p x) (flip p x) (h .same) refl ∙ eq-self (flip p x) (isNan-flip p x ∙ n)
 
+-- max(a, 0) of the same number is the same as data: what is above 0 is no zero, and else it is +0
+pub at-least-zero-is : {x x' : Float} → Rel false x x' → atLeastZero x' ≡ atLeastZero x
+unfolding atLeastZero
+at-least-zero-is {x} {x'} h = rw (r-lt (r-same nought) h) (go (lt nought x) (λ t. nonzero-above nought x tt t))
+  where
+    go : (b : Bool) → (T b → T (nonzero x)) → cond b x' nought ≡ cond b x nought
+    go true n = exact h (n tt)
+    go false n = refl
+
+-- the rule set
 pub ruleset mirror = (tt, r-same, r-zero, r-add, r-sub, r-neg, mul-ss, mul-oo, mul-so, mul-os, r-div, div-ss, div-oo, div-so, div-os, nonzero-above, r-if, r-lt, r-lt-opp, r-le, r-le-opp, r-eq, same-and, same-or, same-not, r-size, r-at-least-zero)

@@ -411,3 +411,9 @@ over-not-below (fin false m e) h = plus-not-below m e
 pub le-num : (x x' y y' : Float) → num x ≡ num x' → num y ≡ num y' → le x y ≡ le x' y'
 unfolding le
 le-num x x' y y' h k = ap₂ _||_ (lt-cong x x' y y' h k) (eq-cong x x' y y' h k)
+
+pub nonzero-below : (x : Float) → T (lt x nought) → T (nonzero x)
+nonzero-below nan h = tt
+nonzero-below (inf s) h = tt
+nonzero-below (fin s zero e) h = subst T (zero-not-below s e) h
+nonzero-below (fin s (suc m) e) h = tt

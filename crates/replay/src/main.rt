@@ -1,3 +1,5 @@
+mod lines;
+mod source;
 mod words;
-
-fn main() {}
+fn main() {
+}

@@ -1,5 +1,6 @@
 -- `replay::words::is_pair` meets its contract. Assumes nothing.
 use borrow.Author.Needs.{needs}
+use borrow.Author.Tests.{not-false, not-true}
 use Rattle.replay.specs.Words.{isPair}
 use Rattle.replay.proofs.words.is_pair.Statement.{statement}
 use Rattle.replay.proofs.words.is_pair.Tie as tie
@@ -12,7 +13,7 @@ is-digit-requires c κs = search needs
 
 returns : tie.Need-returns
 unfolding isPair
-returns c = ?
+returns c = simp (← c .before .is-digit .ensures, not-true (c .before .is-digit .result) (c .if1 .taken))
 
 add-is-digit : tie.Need-add-is-digit
 add-is-digit c = search needs
@@ -25,7 +26,7 @@ is-digit-requires-2 c κs = search needs
 
 returns-2 : tie.Need-returns-2
 unfolding isPair
-returns-2 c = ?
+returns-2 c = simp (← c .is-digit2 .ensures, ← c .before .before .before .is-digit .ensures, not-false (c .before .before .before .is-digit .result) (c .before .before .if1 .left))
 
 pub is-pair-spec : {M : Type 1} → statement M
 is-pair-spec =

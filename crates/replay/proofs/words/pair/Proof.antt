@@ -1,4 +1,5 @@
 -- `replay::words::pair` meets its contract. Assumes nothing.
+use native.Mathlib.Omega.{arith}
 use borrow.Author.Needs.{needs}
 use Rattle.replay.specs.Words.{pairOf}
 use Rattle.replay.proofs.words.pair.Statement.{statement}
@@ -27,7 +28,7 @@ add-result c = search needs
 
 returns : tie.Need-returns
 unfolding pairOf
-returns c = ?
+returns c = (simp (c .digit2 .ensures .0, c .before .before .digit .ensures .0), omega arith)
 
 pub pair-spec : {M : Type 1} → statement M
 pair-spec =

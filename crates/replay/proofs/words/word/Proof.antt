@@ -45,7 +45,7 @@ add-result-3 c = search needs
 
 returns : tie.Need-returns
 unfolding wordOf
-returns c = ?
+returns c = simp (c .pair4 .ensures .0, c .before .pair3 .ensures .0, c .before .before .pair2 .ensures .0, c .before .before .before .pair .ensures .0)
 
 pub word-spec : {M : Type 1} → statement M
 word-spec =

@@ -1,0 +1,2 @@
+-- Laws of the falloff.
+pub mod Mirror

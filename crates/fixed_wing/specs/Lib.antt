@@ -1,0 +1,2 @@
+-- The airplane's parameters. Definitions only.
+pub mod Falloff

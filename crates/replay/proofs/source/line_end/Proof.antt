@@ -1,0 +1,44 @@
+-- `replay::source::line_end` meets its contract. Assumes nothing.
+use Rattle.replay.proofs.source.line_end.Statement.{statement}
+use Rattle.replay.proofs.source.line_end.Tie as tie
+
+abbrev Inv-loop : tie.InvT-loop
+Inv-loop buf at end i₀ i = ?
+
+abbrev μ-loop : tie.MeasureT-loop
+μ-loop buf at end i₀ i = ?
+
+loop-holds : tie.Need-loop-holds Inv-loop μ-loop
+loop-holds c = ?
+
+element-copy-out-if1 : tie.Need-element-copy-out-if1 Inv-loop μ-loop
+element-copy-out-if1 c = ?
+
+returns : tie.Need-returns Inv-loop μ-loop
+returns c = ?
+
+add-i : tie.Need-add-i Inv-loop μ-loop
+add-i c = ?
+
+loop-less : tie.Need-loop-less Inv-loop μ-loop
+loop-less c = ?
+
+loop-again : tie.Need-loop-again Inv-loop μ-loop
+loop-again c = ?
+
+returns-2 : tie.Need-returns-2 Inv-loop μ-loop
+returns-2 c = ?
+
+pub line-end-spec : {M : Type 1} → statement M
+line-end-spec =
+    tie.close
+    (tie.spec
+    Inv-loop
+    μ-loop
+    loop-holds
+    element-copy-out-if1
+    returns
+    add-i
+    loop-less
+    loop-again
+    returns-2)

@@ -1,0 +1,48 @@
+-- `replay::source::to_front` meets its contract. Assumes nothing.
+use Rattle.replay.proofs.source.to_front.Statement.{statement}
+use Rattle.replay.proofs.source.to_front.Tie as tie
+
+abbrev Inv-loop : tie.InvT-loop
+Inv-loop buf₀ at end i₀ buf i = ?
+
+abbrev μ-loop : tie.MeasureT-loop
+μ-loop buf₀ at end i₀ buf i = ?
+
+loop-holds : tie.Need-loop-holds Inv-loop μ-loop
+loop-holds c = ?
+
+element-copy-out-buf : tie.Need-element-copy-out-buf Inv-loop μ-loop
+element-copy-out-buf c = ?
+
+sub-buf : tie.Need-sub-buf Inv-loop μ-loop
+sub-buf c = ?
+
+element-write-buf : tie.Need-element-write-buf Inv-loop μ-loop
+element-write-buf c = ?
+
+add-i : tie.Need-add-i Inv-loop μ-loop
+add-i c = ?
+
+loop-less : tie.Need-loop-less Inv-loop μ-loop
+loop-less c = ?
+
+loop-again : tie.Need-loop-again Inv-loop μ-loop
+loop-again c = ?
+
+returns : tie.Need-returns Inv-loop μ-loop
+returns c = ?
+
+pub to-front-spec : {M : Type 1} → statement M
+to-front-spec =
+    tie.close
+    (tie.spec
+    Inv-loop
+    μ-loop
+    loop-holds
+    element-copy-out-buf
+    sub-buf
+    element-write-buf
+    add-i
+    loop-less
+    loop-again
+    returns)

@@ -1,0 +1,62 @@
+// A file read line by line through a buffer of fixed size.
+ghost use mathlib.Core.Path.{_≡_};
+ghost use Prim.Native.Nat.{_<_, _≤_};
+
+// The bytes from `at` to `end` of the buffer are read and not yet taken.
+pub struct Source {
+    pub fd: i32,
+    pub at: usize,
+    pub end: usize,
+}
+
+// Where the line at `at` ends: at its newline, or at `end` where none follows.
+pub fn line_end(buf: &[u8; 65536], at: usize, end: usize) -> usize
+    requires { ⌜ at ≤ end ⌝ ∗ ⌜ end ≤ 65536 ⌝ }
+    ensures { λ r. ⌜ at ≤ r ⌝ ∗ ⌜ r ≤ end ⌝ }
+{
+    let mut i = at;
+    while i < end {
+        if buf[i] == b'\n' {
+            return i;
+        }
+        i += 1;
+    }
+    end
+}
+
+// Moves the bytes from `at` to `end` to the buffer's start.
+fn to_front(buf: &mut [u8; 65536], at: usize, end: usize)
+    requires { ⌜ at ≤ end ⌝ ∗ ⌜ end ≤ 65536 ⌝ }
+{
+    let mut i = at;
+    while i < end {
+        buf[i - at] = buf[i];
+        i += 1;
+    }
+}
+
+fn refill(buf: &mut [u8; 65536], s: Source) -> Source
+    requires { ⌜ s .at ≤ s .end ⌝ ∗ ⌜ s .end ≤ 65536 ⌝ }
+    ensures { λ r. ⌜ r .at ≤ r .end ⌝ ∗ ⌜ r .end ≤ 65536 ⌝ }
+{
+    to_front(buf, s.at, s.end);
+    let n = s.end - s.at;
+    let more = io::read_full(s.fd, &mut buf[n..]);
+    Source {
+        fd: s.fd,
+        at: 0,
+        end: n + more,
+    }
+}
+
+// Sees to it that the whole next line is in the buffer, as far as it fits. Nothing from `at` to
+// `end`: the file has ended.
+pub fn with_line(buf: &mut [u8; 65536], s: Source) -> Source
+    requires { ⌜ s .at ≤ s .end ⌝ ∗ ⌜ s .end ≤ 65536 ⌝ }
+    ensures { λ r. ⌜ r .at ≤ r .end ⌝ ∗ ⌜ r .end ≤ 65536 ⌝ }
+{
+    if line_end(buf, s.at, s.end) < s.end {
+        return s;
+    }
+    refill(buf, s)
+}

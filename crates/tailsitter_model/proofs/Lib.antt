@@ -1,0 +1,2 @@
+-- Laws of the wash.
+pub mod Mirror

@@ -1,0 +1,2 @@
+-- The props' slipstream. Definitions only.
+pub mod Slipstream

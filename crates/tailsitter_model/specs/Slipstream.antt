@@ -1,0 +1,34 @@
+-- The prop wash (01, module 5: wash and added_pa only; an absent wash is all zeros). The density is an argument. Definitions only.
+use lib.Ieee.{Float, binary32, lt, neg}
+use mathlib.Core.Bool.{cond}
+use Rattle.float.specs.Notation.{_⊖_, _⊗_, _⊘_, atLeastZero, nought, two}
+use Rattle.libm.specs.Sqrt.{sqrtOf}
+use Rattle.tailsitter_model.specs.declared.PropWash.{PropWash}
+use Rattle.tailsitter_model.specs.declared.Wash.{Wash}
+
+-- nose first T/A; tail first at speed V against a static jet v = √(2T/ρA), with the sink's loss scaled by k: T/A - k·ρ·v·V
+unfoldable pub discPa : PropWash → Float → Float
+discPa w thrust = thrust ⊘ w .«disc_area_m2»
+
+unfoldable pub addedPa : PropWash → Float → Float → Float → Float
+addedPa w thrust axial density =
+    cond (lt axial nought) (discPa w thrust ⊖ w .«sink_loss» ⊗ density ⊗ sqrtOf binary32 (two ⊗ discPa w thrust ⊘ density) ⊗ neg axial) (discPa w thrust)
+
+-- the speed of the jet over the wing, and the pressure over the surfaces where it adds to the free stream's
+unfoldable pub flowMps : Float → Float → Float
+flowMps added density = sqrtOf binary32 (two ⊗ atLeastZero added ⊘ density)
+
+unfoldable pub washFrom : PropWash → Float → Float → Wash
+washFrom w added density = record {
+  «pressure_pa» = w .«surface_fraction» ⊗ added;
+  «roll_pressure_pa» = w .«roll_fraction» ⊗ added;
+  «pitch_moment_pa» = w .«pitch_moment» ⊗ atLeastZero (w .«surface_fraction» ⊗ added);
+  «stall_pitch_moment_pa» = w .«stall_pitch_moment» ⊗ atLeastZero (w .«surface_fraction» ⊗ added);
+  «damping_mps» = w .«damping_fraction» ⊗ flowMps added density;
+}
+
+unfoldable pub washOf : PropWash → Float → Float → Float → Wash
+washOf w thrust axial density = washFrom w (addedPa w thrust axial density) density
+
+abbrev pub noWash : Wash
+noWash = record { «pressure_pa» = nought; «roll_pressure_pa» = nought; «pitch_moment_pa» = nought; «stall_pitch_moment_pa» = nought; «damping_mps» = nought }
