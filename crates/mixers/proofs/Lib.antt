@@ -1,2 +1,3 @@
--- Laws of slots.
+-- Laws of slots and rows.
 pub mod Slots
+pub mod Putting

@@ -1,14 +1,18 @@
 -- A loop over the 8 slots that sets one element at a turn leaves the list of a function's values. Assumes nothing.
 use Prim.Native.Nat.{_+_, _<_, _≤_, suc, zero, ℕ}
-use lib.Ieee.{below}
+use lib.Ieee.{Float, below}
 use lib.ListN.{getD, length, length-set, set}
 use lib.Seq.{ext-getD, getD-set-other, getD-set-same}
 use mathlib.Core.List.{List}
 use mathlib.Core.Logic.{_⊎_, inl, inr}
-use mathlib.Core.Path.{_∙_, _≡_, refl, sym}
+use mathlib.Core.Path.{_∙_, _≡_, ap, ap₂, refl, sym}
 use native.Mathlib.Nat.{eq-or-lt-of-le}
+use native.Mathlib.Numerals.{add-one}
 use native.Mathlib.Omega.{arith}
-use Rattle.mixers.specs.Slots.{slots}
+use Rattle.float.specs.Notation.{_⊕_}
+use Rattle.vector.specs.Vector.{addOf}
+use Rattle.vector.specs.declared.Vec3.{Vec3}
+use Rattle.mixers.specs.Slots.{slots, sumTo, vecSumTo}
 
 -- after n turns: the first n elements are f's, the others are as they were
 pub record Filled {X : Type 0} (d : X) (f : ℕ → X) (start xs : List X) (n : ℕ) : Type 0 where
@@ -45,6 +49,10 @@ module _ {X : Type 0} (d : X) (f : ℕ → X) (start : List X) where
       apart : (k : ℕ) → n + 1 ≤ k → k ≡ n → ⊥
       apart k m e = omega arith
 
+  -- the same where what is stored is known to be f's
+  pub fill-more : (xs : List X) (n : ℕ) (v : X) → v ≡ f n → n < 8 → Filled d f start xs n → Filled d f start (set xs n v) (n + 1)
+  fill-more xs n v e l h = rw e (fill-step xs n l h)
+
   pub slots-at : (k : ℕ) → k < 8 → getD (slots f) k d ≡ f k
   slots-at zero l = refl
   slots-at (suc zero) l = refl
@@ -61,3 +69,12 @@ module _ {X : Type 0} (d : X) (f : ℕ → X) (start : List X) where
 
   pub fill-end : (xs : List X) (n : ℕ) → 8 ≤ n → Filled d f start xs n → xs ≡ slots f
   fill-end xs n l h = ext-getD d xs (slots f) (h .long) (λ k b. h .done k (omega (arith, b, h .long)) ∙ sym (slots-at k (omega (arith, b, h .long))))
+
+-- ---- a loop that sums
+pub sum-more : (f : ℕ → Float) (n : ℕ) (t v : Float) → t ≡ sumTo f n → v ≡ f n → t ⊕ v ≡ sumTo f (n + 1)
+unfolding sumTo
+sum-more f n t v e h = ap₂ (λ (a b : Float). a ⊕ b) e h ∙ sym (ap (sumTo f) (add-one n))
+
+pub vec-sum-more : (f : ℕ → Vec3) (n : ℕ) (t v r : Vec3) → t ≡ vecSumTo f n → v ≡ f n → r ≡ addOf t v → r ≡ vecSumTo f (n + 1)
+unfolding vecSumTo
+vec-sum-more f n t v r e h g = g ∙ ap₂ addOf e h ∙ sym (ap (vecSumTo f) (add-one n))

@@ -46,7 +46,8 @@ fn past_mark(s: &[u8], l: Line) -> Line
 
 // On over the word at l.at, which goes into w.
 fn past_word(s: &[u8], l: Line, w: &mut [u32; 192]) -> Line
-    requires { do ⌜ l .at < (← ⟦s.len()⟧) ⌝ ∗ ⌜ (← ⟦s.len()⟧) ≤ 65536 ⌝ ∗ ⌜ l .inputs ≤ l .count ⌝ ∗ ⌜ l .count ≤ 192 ⌝ }
+    requires { do ⌜ l .at < (← ⟦s.len()⟧) ⌝ ∗ ⌜ (← ⟦s.len()⟧) ≤ 65536 ⌝ }
+    requires { ⌜ l .inputs ≤ l .count ⌝ ∗ ⌜ l .count ≤ 192 ⌝ }
     ensures { λ r. ⌜ l .at < r .at ⌝ ∗ ⌜ r .inputs ≤ r .count ⌝ ∗ ⌜ r .count ≤ 192 ⌝ }
 {
     let at = l.at;
@@ -72,7 +73,8 @@ fn past_word(s: &[u8], l: Line, w: &mut [u32; 192]) -> Line
 }
 
 fn step(s: &[u8], l: Line, w: &mut [u32; 192]) -> Line
-    requires { do ⌜ l .at < (← ⟦s.len()⟧) ⌝ ∗ ⌜ (← ⟦s.len()⟧) ≤ 65536 ⌝ ∗ ⌜ l .inputs ≤ l .count ⌝ ∗ ⌜ l .count ≤ 192 ⌝ }
+    requires { do ⌜ l .at < (← ⟦s.len()⟧) ⌝ ∗ ⌜ (← ⟦s.len()⟧) ≤ 65536 ⌝ }
+    requires { ⌜ l .inputs ≤ l .count ⌝ ∗ ⌜ l .count ≤ 192 ⌝ }
     ensures { λ r. ⌜ l .at < r .at ⌝ ∗ ⌜ r .inputs ≤ r .count ⌝ ∗ ⌜ r .count ≤ 192 ⌝ }
 {
     let at = l.at;

@@ -1,5 +1,62 @@
+// Replays the lists of inputs and answers that are the files beside it, and counts the cases where the
+// crates' answers differ from the lists'.
+mod cases;
+mod elementary;
 mod lines;
+mod lists;
+mod report;
 mod source;
 mod words;
+
+use cases::Tally;
+use lists::List;
+use source::Source;
+
+// Replays the lines of the open file fd.
+fn replay(list: List, fd: i32, buf: &mut [u8; 65536]) -> Tally {
+    let mut s = Source {
+        fd: fd,
+        at: 0,
+        end: 0,
+    };
+    let mut t = Tally {
+        cases: 0,
+        differ: 0,
+    };
+    let mut turns = u64::MAX;
+    while turns > 0 {
+        s = source::with_line(buf, s);
+        let at = s.at;
+        let end = s.end;
+        if at == end {
+            return t;
+        }
+        let to = source::line_end(buf, at, end);
+        t = cases::take(list, buf, at, to, t);
+        s = source::past(s, to);
+        turns -= 1;
+    }
+    t
+}
+
+// Replays the list `name`, which is in the file of that name with `.txt` behind it.
+fn run(name: &[u8], path: &[u8], list: List, buf: &mut [u8; 65536]) {
+    let fd = os::open_read(path);
+    if fd < 0 {
+        report::missing(name);
+        return;
+    }
+    let t = replay(list, fd, buf);
+    libc::close(fd);
+    report::counts(name, t.cases, t.differ);
+}
+
 fn main() {
+    let mut buf = io::large_buffer();
+    run(b"sqrtf", b"sqrtf.txt", List::Sqrtf, &mut buf);
+    run(b"expf", b"expf.txt", List::Expf, &mut buf);
+    run(b"sinf", b"sinf.txt", List::Sinf, &mut buf);
+    run(b"cosf", b"cosf.txt", List::Cosf, &mut buf);
+    run(b"asinf", b"asinf.txt", List::Asinf, &mut buf);
+    run(b"atan2f", b"atan2f.txt", List::Atan2f, &mut buf);
 }

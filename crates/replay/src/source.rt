@@ -1,6 +1,6 @@
 // A file read line by line through a buffer of fixed size.
 ghost use mathlib.Core.Path.{_≡_};
-ghost use Prim.Native.Nat.{_<_, _≤_};
+ghost use Prim.Native.Nat.{_+_, _≤_};
 
 // The bytes from `at` to `end` of the buffer are read and not yet taken.
 pub struct Source {
@@ -35,13 +35,21 @@ fn to_front(buf: &mut [u8; 65536], at: usize, end: usize)
     }
 }
 
+// Reads on into the buffer from n, and answers how many bytes came.
+fn read_behind(fd: i32, buf: &mut [u8], n: usize) -> usize
+    requires { do ⌜ n ≤ (← ⟦buf.len()⟧) ⌝ }
+    ensures { λ r. do ⌜ n + r ≤ (← ⟦buf.len()⟧ .entry) ⌝ }
+{
+    io::read_full(fd, &mut buf[n..])
+}
+
 fn refill(buf: &mut [u8; 65536], s: Source) -> Source
     requires { ⌜ s .at ≤ s .end ⌝ ∗ ⌜ s .end ≤ 65536 ⌝ }
     ensures { λ r. ⌜ r .at ≤ r .end ⌝ ∗ ⌜ r .end ≤ 65536 ⌝ }
 {
     to_front(buf, s.at, s.end);
     let n = s.end - s.at;
-    let more = io::read_full(s.fd, &mut buf[n..]);
+    let more = read_behind(s.fd, buf, n);
     Source {
         fd: s.fd,
         at: 0,
@@ -59,4 +67,16 @@ pub fn with_line(buf: &mut [u8; 65536], s: Source) -> Source
         return s;
     }
     refill(buf, s)
+}
+
+// After the line that ends at `to`, and its newline.
+pub fn past(s: Source, to: usize) -> Source
+    requires { ⌜ to ≤ s .end ⌝ }
+    ensures { λ r. ⌜ r .at ≤ r .end ⌝ ∗ ⌜ r .end ≡ s .end ⌝ }
+{
+    Source {
+        fd: s.fd,
+        at: if to < s.end { to + 1 } else { to },
+        end: s.end,
+    }
 }

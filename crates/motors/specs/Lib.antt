@@ -1,0 +1,2 @@
+-- The motors. Definitions only.
+pub mod Motor

@@ -1,0 +1,26 @@
+// The lists, and what answers each.
+ghost use Prim.Native.Nat.{_≤_};
+use crate::elementary;
+
+pub enum List {
+    Sqrtf,
+    Expf,
+    Sinf,
+    Cosf,
+    Asinf,
+    Atan2f,
+}
+
+// Puts the answers to the inputs at the start of w into out, and says how many there are.
+pub fn answers(list: List, w: &[u32; 192], inputs: usize, out: &mut [u32; 64]) -> usize
+    ensures { λ n. ⌜ n ≤ 64 ⌝ }
+{
+    match list {
+        List::Sqrtf => elementary::sqrtf(w, inputs, out),
+        List::Expf => elementary::expf(w, inputs, out),
+        List::Sinf => elementary::sinf(w, inputs, out),
+        List::Cosf => elementary::cosf(w, inputs, out),
+        List::Asinf => elementary::asinf(w, inputs, out),
+        List::Atan2f => elementary::atan2f(w, inputs, out),
+    }
+}
