@@ -1,5 +1,9 @@
 // One case of a list: its words, what answers them, and whether the two agree.
+ghost use mathlib.Core.Path.{_≡_};
 ghost use Prim.Native.Nat.{_+_, _≤_};
+ghost use lib.Ieee as Ieee;
+ghost use lib.Ieee.{binary32};
+ghost use Rattle.float.specs.Same.{num};
 use crate::lines;
 use crate::lists;
 use crate::lists::List;
@@ -11,7 +15,9 @@ pub struct Tally {
 }
 
 // One word for each number: zeros alike, NaNs alike.
-fn plain(b: u32) -> u32 {
+fn plain(b: u32) -> u32
+    ensures { λ r. ⌜ r ≡ Ieee.toBits binary32 (num (Ieee.ofBits binary32 b)) ⌝ }
+{
     let x = float::from_bits(b);
     if x == 0.0 {
         return 0;

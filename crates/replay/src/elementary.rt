@@ -1,7 +1,8 @@
 // The lists of `libm`'s functions: one word in, or two, and one out.
-// A list's function puts its answers at the start of out and says how many there are: none where
-// the case has another number of inputs.
+ghost use Prim.Native.Nat.{_≤_};
 
+// A list's function puts its answers at the start of out, as bits, and says how many there are: none
+// where the case has another number of inputs than the list.
 fn one(inputs: usize, wanted: usize, y: f32, out: &mut [u32; 64]) -> usize
     ensures { λ n. ⌜ n ≤ 64 ⌝ }
 {
@@ -11,7 +12,6 @@ fn one(inputs: usize, wanted: usize, y: f32, out: &mut [u32; 64]) -> usize
     out[0] = float::to_bits(y);
     1
 }
-ghost use Prim.Native.Nat.{_≤_};
 
 pub fn sqrtf(w: &[u32; 192], inputs: usize, out: &mut [u32; 64]) -> usize
     ensures { λ n. ⌜ n ≤ 64 ⌝ }

@@ -57,12 +57,11 @@ loop-again c =
     let s = c .before .before .before .before .before in
     let a = s .before .before .before .before .args in
     let i = s .loop .i in
-    let one-n = c .before .before .before .motor-thrust-n in
-    (
+    let one-n = c .before .before .before .motor-thrust-n in (
       search needs,
       sum-more (slotThrust (a .self) (a .falloff) (a .airspeed-mps)) i (s .loop .thrust-n) (one-n .result) (s .loop .inv .1) (one-n .ensures),
       vec-sum-more (slotTorque (a .self) (a .falloff) (a .airspeed-mps)) i (s .loop .torque-nm) (c .before .scale .result) (c .add .result) (s .loop .inv .2)
-      (c .before .scale .ensures ∙ ap (scaleOf (vecAt (a .self .«torque_per_thrust_m») i)) (one-n .ensures)) (c .add .ensures),
+          (c .before .scale .ensures ∙ ap (scaleOf (vecAt (a .self .«torque_per_thrust_m») i)) (one-n .ensures)) (c .add .ensures),
     )
 
 returns : tie.Need-returns Inv-loop μ-loop

@@ -1,0 +1,40 @@
+-- `surfaces::Factors::put` meets its contract. Assumes nothing.
+use borrow.Author.Needs.{needs}
+use Rattle.surfaces.specs.Surface.{putAt, putOf}
+use Rattle.surfaces.proofs.Factors.put.Statement.{statement}
+use Rattle.surfaces.proofs.Factors.put.Tie as tie
+
+enum-known-slot : tie.Need-enum-known-slot
+enum-known-slot c = search needs
+
+cast-put-servo : tie.Need-cast-put-servo
+cast-put-servo c = search needs
+
+factors-requires : tie.Need-factors-requires
+factors-requires c κs = search needs
+
+put-servo-requires : tie.Need-put-servo-requires
+put-servo-requires c κs = search needs
+
+enum-told : tie.Need-enum-told
+enum-told c = search needs
+
+returns : tie.Need-returns
+unfolding putOf putAt
+returns c = simp (c .put-servo .ensures, c .before .factors .ensures, c .before .before .before .slot .given .1)
+
+returns-2 : tie.Need-returns-2
+unfolding putOf putAt
+returns-2 c = simp (c .enum-told .given .1)
+
+pub put-spec : {M : Type 1} → statement M
+put-spec =
+    tie.close
+    (tie.spec
+    enum-known-slot
+    cast-put-servo
+    factors-requires
+    put-servo-requires
+    enum-told
+    returns
+    returns-2)

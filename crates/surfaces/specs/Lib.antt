@@ -1,0 +1,2 @@
+-- The control surfaces. Definitions only.
+pub mod Surface
