@@ -1,0 +1,3 @@
+-- Laws of the motors.
+pub mod Range
+pub mod Mirror

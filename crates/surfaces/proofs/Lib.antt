@@ -1,0 +1,3 @@
+-- Laws of the surfaces.
+pub mod Range
+pub mod Mirror
