@@ -11,3 +11,4 @@ pub mod Tests
 pub mod Mirror
 pub mod Patterns
 pub mod Integers
+pub mod Ordered

@@ -4,3 +4,4 @@ pub mod Bytes
 pub mod Whole
 pub mod Interval
 pub mod Same
+pub mod Ordered

@@ -10,6 +10,7 @@ ghost use lib.Ieee.{fin, binary32};
 ghost use Rattle.float.specs.Bytes.{word, put};
 ghost use Rattle.float.specs.Whole.{wholePart};
 ghost use Rattle.float.specs.Notation as Notation;
+ghost use Rattle.float.specs.Interval as Interval;
 
 // The float with these bits; any NaN's bits give a NaN.
 pub fn from_bits(b: u32) -> f32
@@ -132,4 +133,14 @@ pub fn clamp(x: f32, lo: f32, hi: f32) -> f32
         return hi;
     }
     x
+}
+
+// Whether x is a number from lo to hi, both included; a NaN is not.
+pub fn inside(x: f32, lo: f32, hi: f32) -> bool
+    ensures { λ r. ⌜ r ≡ Interval.inside lo hi x ⌝ }
+{
+    if lo <= x {
+        return x <= hi;
+    }
+    false
 }

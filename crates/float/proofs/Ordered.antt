@@ -1,0 +1,124 @@
+-- Tests in a row: what a loop over them finds, what it means that none fails, and that rows of equal tests have one answer. Assumes nothing.
+use Prim.Native.Nat.{_+_, _-_, _<_, _≤_, suc, zero, ℕ}
+use lib.Dec.{T, eqb·suc-zero}
+use lib.Ieee.{Float, le, neg}
+use mathlib.Core.Bool.{Bool, _&&_, cond, false, false≢true, true}
+use mathlib.Core.Path.{_∙_, _≡_, ap, ap₂, refl, subst, sym}
+use native.Mathlib.Numerals.{add-one}
+use native.Mathlib.Omega.{arith}
+use Rattle.float.proofs.Mirror.{r-le, r-le-opp, r-same}
+use Rattle.float.proofs.Sign.{neg-neg}
+use Rattle.float.specs.Interval.{Within, inside}
+use Rattle.float.specs.Ordered.{after, firstFail, orElse}
+use Rattle.float.specs.Same.{Rel, num}
+
+-- ---- a loop over the tests below n, at i
+pub fail-next : (ok : ℕ → Bool) (i n : ℕ) → i < n → ok i ≡ true → firstFail ok i (n - i) ≡ firstFail ok (i + 1) (n - (i + 1))
+unfolding firstFail
+fail-next ok i n l e = ap (firstFail ok i) (less i n l) ∙ (rw e (rw (add-one i) refl))
+  where
+    less : (i n : ℕ) → i < n → n - i ≡ suc (n - (i + 1))
+    less i n l = omega arith
+
+pub fail-here : (ok : ℕ → Bool) (i n : ℕ) → i < n → ok i ≡ false → firstFail ok i (n - i) ≡ i + 1
+unfolding firstFail
+fail-here ok i n l e = ap (firstFail ok i) (less i n l) ∙ (rw e (sym (add-one i)))
+  where
+    less : (i n : ℕ) → i < n → n - i ≡ suc (n - (i + 1))
+    less i n l = omega arith
+
+pub fail-end : (ok : ℕ → Bool) (i n : ℕ) → n ≤ i → firstFail ok i (n - i) ≡ 0
+unfolding firstFail
+fail-end ok i n l = ap (firstFail ok i) (none i n l)
+  where
+    none : (i n : ℕ) → n ≤ i → n - i ≡ 0
+    none i n l = omega arith
+
+-- ---- where none fails, each holds
+cond-none : (b : Bool) (x y : ℕ) → cond b x (suc y) ≡ 0 → (b ≡ true) × (x ≡ 0)
+cond-none true x y e = (refl, e)
+cond-none false x y e = absurd (none y e)
+  where
+    none : (y : ℕ) → suc y ≡ 0 → ⊥
+    none y e = omega arith
+
+pub all-hold : (ok : ℕ → Bool) (i n : ℕ) → firstFail ok i n ≡ 0 → (k : ℕ) → k < n → ok (i + k) ≡ true
+unfolding firstFail
+all-hold ok i zero e k l = absurd (none k l)
+  where
+    none : (k : ℕ) → k < 0 → ⊥
+    none k l = omega arith
+all-hold ok i (suc n) e zero l = ap ok (omega arith) ∙ cond-none (ok i) (firstFail ok (suc i) n) i e .0
+all-hold ok i (suc n) e (suc k) l = ap ok (shift i k) ∙ all-hold ok (suc i) n (cond-none (ok i) (firstFail ok (suc i) n) i e .1) k (omega (arith, l))
+  where
+    shift : (i k : ℕ) → i + suc k ≡ suc i + k
+    shift i k = omega arith
+
+-- ---- where each holds, none fails
+pub none-fails : (ok : ℕ → Bool) (i n : ℕ) → ((k : ℕ) → ok k ≡ true) → firstFail ok i n ≡ 0
+unfolding firstFail
+none-fails ok i zero h = refl
+none-fails ok i (suc n) h = rw (h i) (none-fails ok (suc i) n h)
+
+-- ---- equal tests
+pub fail-same : {ok ok' : ℕ → Bool} (i n : ℕ) → ((k : ℕ) → ok' k ≡ ok k) → firstFail ok' i n ≡ firstFail ok i n
+unfolding firstFail
+fail-same i zero h = refl
+fail-same {ok} {ok'} i (suc n) h = ap₂ (λ (b : Bool) (x : ℕ). cond b x (suc i)) (h i) (fail-same (suc i) n h)
+
+-- ---- rows in a row
+pub or-none : (a b : ℕ) → orElse a b ≡ 0 → (a ≡ 0) × (b ≡ 0)
+unfolding orElse
+or-none zero b e = (refl, e)
+or-none (suc a) b e = absurd (none a (sym (ap (λ (t : Bool). cond t b (suc a)) (eqb·suc-zero a)) ∙ e))
+  where
+    none : (a : ℕ) → suc a ≡ 0 → ⊥
+    none a e = omega arith
+
+pub after-none : (n f : ℕ) → after n f ≡ 0 → f ≡ 0
+unfolding after
+after-none n zero e = refl
+after-none n (suc f) e = absurd (none n f (sym (ap (λ (t : Bool). cond t 0 (n + suc f)) (eqb·suc-zero f)) ∙ e))
+  where
+    none : (n f : ℕ) → n + suc f ≡ 0 → ⊥
+    none n f e = omega arith
+
+-- ---- the test of an interval
+and-both : (a b : Bool) → (a && b) ≡ true → (a ≡ true) × (b ≡ true)
+and-both true true e = (refl, refl)
+and-both true false e = absurd (false≢true e)
+and-both false b e = absurd (false≢true e)
+
+pub inside-within : {lo hi x : Float} → inside lo hi x ≡ true → Within lo hi x
+unfolding inside
+inside-within {lo} {hi} {x} e = record { at-least = subst T (sym (and-both (le lo x) (le x hi) e .0)) tt; at-most = subst T (sym (and-both (le lo x) (le x hi) e .1)) tt }
+
+is-true : (b : Bool) → T b → b ≡ true
+is-true true t = refl
+is-true false t = absurd t
+
+pub within-inside : {lo hi x : Float} → Within lo hi x → inside lo hi x ≡ true
+unfolding inside
+within-inside {lo} {hi} {x} w = ap₂ _&&_ (is-true (le lo x) (w .at-least)) (is-true (le x hi) (w .at-most))
+
+-- it is the same for the same number, and about zero for the opposite one
+pub inside-same : {x x' : Float} (lo hi : Float) → Rel false x x' → inside lo hi x' ≡ inside lo hi x
+unfolding inside
+inside-same lo hi h = ap₂ _&&_ (r-le (r-same lo) h) (r-le h (r-same hi))
+
+pub inside-opp : {x x' : Float} (l : Float) → Rel true x x' → inside (neg l) l x' ≡ inside (neg l) l x
+unfolding inside
+inside-opp {x} {x'} l h = ap₂ _&&_ (r-le-opp (record { same = refl }) h) (r-le-opp h (record { same = ap num (sym (neg-neg l)) })) ∙ and-comm (le x l) (le (neg l) x)
+  where
+    and-comm : (a b : Bool) → (a && b) ≡ (b && a)
+    and-comm true true = refl
+    and-comm true false = refl
+    and-comm false true = refl
+    and-comm false false = refl
+
+pub inside-rel : {p : Bool} {x x' : Float} (l : Float) → Rel p x x' → inside (neg l) l x' ≡ inside (neg l) l x
+inside-rel {p} {x} {x'} l h = go p h
+  where
+    go : (p : Bool) → Rel p x x' → inside (neg l) l x' ≡ inside (neg l) l x
+    go true h = inside-opp l h
+    go false h = inside-same (neg l) l h
