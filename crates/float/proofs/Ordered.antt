@@ -2,7 +2,7 @@
 use Prim.Native.Nat.{_+_, _-_, _<_, _≤_, suc, zero, ℕ}
 use lib.Dec.{T, eqb·suc-zero}
 use lib.Ieee.{Float, le, neg}
-use mathlib.Core.Bool.{Bool, _&&_, cond, false, false≢true, true}
+use mathlib.Core.Bool.{Bool, _&&_, cond, false, false≢true, not, true}
 use mathlib.Core.Path.{_∙_, _≡_, ap, ap₂, refl, subst, sym}
 use native.Mathlib.Numerals.{add-one}
 use native.Mathlib.Omega.{arith}
@@ -122,3 +122,33 @@ inside-rel {p} {x} {x'} l h = go p h
     go : (p : Bool) → Rel p x x' → inside (neg l) l x' ≡ inside (neg l) l x
     go true h = inside-opp l h
     go false h = inside-same (neg l) l h
+
+-- ---- a test that the code asks the other way round
+not-not : (b : Bool) → not (not b) ≡ b
+not-not true = refl
+not-not false = refl
+
+pub not-true : {b : Bool} → not b ≡ true → b ≡ false
+not-true {b} e = sym (not-not b) ∙ ap not e
+
+pub not-false : {b : Bool} → not b ≡ false → b ≡ true
+not-false {b} e = sym (not-not b) ∙ ap not e
+
+-- ---- the rows by whether the first number is 0
+pub or-zero : (a b : ℕ) → a ≡ 0 → orElse a b ≡ b
+unfolding orElse
+or-zero a b e = rw e
+
+pub or-some : (a b : ℕ) → (a ≡ 0 → ⊥) → orElse a b ≡ a
+unfolding orElse
+or-some zero b n = absurd (n refl)
+or-some (suc a) b n = rw (eqb·suc-zero a)
+
+pub after-zero : (n f : ℕ) → f ≡ 0 → after n f ≡ 0
+unfolding after
+after-zero n f e = rw e
+
+pub after-some : (n f : ℕ) → (f ≡ 0 → ⊥) → after n f ≡ n + f
+unfolding after
+after-some n zero h = absurd (h refl)
+after-some n (suc f) h = rw (eqb·suc-zero f)

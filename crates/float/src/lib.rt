@@ -11,6 +11,7 @@ ghost use Rattle.float.specs.Bytes.{word, put};
 ghost use Rattle.float.specs.Whole.{wholePart};
 ghost use Rattle.float.specs.Notation as Notation;
 ghost use Rattle.float.specs.Interval as Interval;
+ghost use Rattle.float.specs.Ordered as Ordered;
 
 // The float with these bits; any NaN's bits give a NaN.
 pub fn from_bits(b: u32) -> f32
@@ -143,4 +144,19 @@ pub fn inside(x: f32, lo: f32, hi: f32) -> bool
         return x <= hi;
     }
     false
+}
+
+// Of two rows of tests, each with the number of its first failed test or 0, the first number that is not 0.
+pub fn or_else(first: u32, second: u32) -> u32
+    ensures { λ r. ⌜ r ≡ Ordered.orElse first second ⌝ }
+{
+    if first == 0 { second } else { first }
+}
+
+// The number of a row's failed test, or 0, counted on from the `count` tests before it.
+pub fn after(count: u32, failed: u32) -> u32
+    requires { ⌜ count ≤ 1000 ⌝ ∗ ⌜ failed ≤ 1000 ⌝ }
+    ensures { λ r. ⌜ r ≡ Ordered.after count failed ⌝ }
+{
+    if failed == 0 { 0 } else { count + failed }
 }

@@ -1,0 +1,2 @@
+-- Laws of the aerodynamics.
+pub mod Mirror

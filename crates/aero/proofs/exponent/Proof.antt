@@ -1,0 +1,19 @@
+-- `aero::exponent` meets its contract. Assumes nothing.
+use lib.Ieee.{neg, ofBits}
+use borrow.Author.Needs.{needs}
+use Rattle.aero.specs.Coefficients.{exponent}
+use Rattle.aero.proofs.exponent.Statement.{statement}
+use Rattle.aero.proofs.exponent.Tie as tie
+
+clamp-requires : tie.Need-clamp-requires
+clamp-requires c κs = search needs
+
+expf-requires : tie.Need-expf-requires
+expf-requires c κs = search needs
+
+returns : tie.Need-returns
+unfolding exponent ofBits neg
+returns c = simp (c .expf .ensures, c .before .clamp .ensures)
+
+pub exponent-spec : {M : Type 1} → statement M
+exponent-spec = tie.close (tie.spec clamp-requires expf-requires returns)

@@ -1,0 +1,80 @@
+-- The dimensionless coefficients (01, module 6), in the stability-derivative form of Beard and McLain, Small Unmanned Aircraft, ch. 4 (below: B&M), in the order of operations
+-- that the Rust spells. Where the Rust departs from the book, a line says so. Definitions only.
+use lib.Ieee.{Float, fin, le, lt, nan, ne, neg}
+use lib.IntN.{negsuc, pos}
+use mathlib.Core.Bool.{cond, false}
+use Rattle.fixed_wing.specs.Falloff.{aspectRatio}
+use Rattle.fixed_wing.specs.declared.AeroCoefficients.{AeroCoefficients}
+use Rattle.fixed_wing.specs.declared.FixedWingModel.{FixedWingModel}
+use Rattle.float.specs.Notation.{_⊕_, _⊖_, _⊗_, _⊘_, clamp, half, nought, one, sizeOf, two}
+use Rattle.libm.specs.Atan.{pi}
+use Rattle.libm.specs.Exp.{expOf}
+
+-- ---- the stall blend, B&M eq. 4.10: σ(α) = (1 + e^(-M(α-α0)) + e^(M(α+α0))) / ((1 + e^(-M(α-α0))) (1 + e^(M(α+α0))))
+-- departs: an exponent is clamped to ±60 first
+abbrev pub sixty : Float
+sixty = fin false 15 (pos 2)
+
+unfoldable pub exponent : Float → Float
+exponent x = expOf (clamp (neg sixty) sixty x)
+
+unfoldable pub pastPositive : AeroCoefficients → Float → Float
+pastPositive c alpha = exponent (neg (c .«stall_sharpness») ⊗ (alpha ⊖ c .«alpha_stall_rad»))
+
+unfoldable pub pastNegative : AeroCoefficients → Float → Float
+pastNegative c alpha = exponent (c .«stall_sharpness» ⊗ (alpha ⊕ c .«alpha_stall_rad»))
+
+unfoldable pub sigmoid : Float → Float → Float
+sigmoid p n = (one ⊕ p ⊕ n) ⊘ ((one ⊕ p) ⊗ (one ⊕ n))
+
+unfoldable pub stallBlend : AeroCoefficients → Float → Float
+stallBlend c alpha = sigmoid (pastPositive c alpha) (pastNegative c alpha)
+
+-- ---- lift, B&M eq. 4.9: (1 - σ) (CL0 + CLα α) + σ (2 sign(α) sin²α cos α)
+unfoldable pub linearLift : AeroCoefficients → Float → Float
+linearLift c alpha = c .«c_lift_0» ⊕ c .«c_lift_alpha» ⊗ alpha
+
+-- sign(α): 1 or -1; a NaN's is a NaN. The Rust's `signum` is -1 for -0, where this is 1: times sin²α = 0, that moves only a zero's sign
+unfoldable pub signOf : Float → Float
+signOf x = cond (lt x nought) (neg one) (cond (ne x x) nan one)
+
+unfoldable pub flatPlateLift : Float → Float → Float → Float
+flatPlateLift alpha s co = two ⊗ signOf alpha ⊗ s ⊗ s ⊗ co
+
+unfoldable pub liftCoefficient : AeroCoefficients → Float → Float → Float → Float → Float
+liftCoefficient c alpha blend s co = (one ⊖ blend) ⊗ linearLift c alpha ⊕ blend ⊗ flatPlateLift alpha s co
+
+-- ---- drag, B&M eq. 4.11: CDp + (CL0 + CLα α)² / (π e AR), with AR = span² / area
+-- departs: AR is computed anew from span and area; past the stall the drag is blended (in `Wrench`) into a flat plate's, CDp + 2 sin²α
+unfoldable pub dragCoefficient : FixedWingModel → Float → Float
+dragCoefficient m lift = m .aero .«c_drag_0» ⊕ lift ⊗ lift ⊘ (pi ⊗ m .aero .oswald ⊗ aspectRatio (m .«span_m») (m .«wing_area_m2»))
+
+unfoldable pub flatPlatePressureDrag : Float → Float
+flatPlatePressureDrag s = two ⊗ s ⊗ s
+
+unfoldable pub flatPlateDrag : AeroCoefficients → Float → Float
+flatPlateDrag c s = c .«c_drag_0» ⊕ flatPlatePressureDrag s
+
+-- ---- pitch, B&M ch. 4.2: Cm0 + Cmα α
+-- departs: on sin α, not α; and blended past the stall into a flat plate's, which the book has not: its normal force, lift · cos α + drag · sin α, at a centre of pressure
+-- from the quarter chord at α 0 to the three-quarter chord at ±180°, about a centre of gravity that is ahead of the quarter chord by -Cmα / CLα. Without the knee
+abbrev pub quarterChord : Float
+quarterChord = fin false 1 (negsuc 1)
+
+unfoldable pub staticMargin : AeroCoefficients → Float
+staticMargin c = cond (lt nought (c .«c_lift_alpha»)) (neg (c .«c_pitch_alpha») ⊘ c .«c_lift_alpha») nought
+
+unfoldable pub plateNormal : Float → Float → Float → Float
+plateNormal alpha s co = flatPlateLift alpha s co ⊗ co ⊕ flatPlatePressureDrag s ⊗ s
+
+unfoldable pub flatPlatePitch : AeroCoefficients → Float → Float → Float → Float
+flatPlatePitch c alpha s co = neg (plateNormal alpha s co) ⊗ (quarterChord ⊕ half ⊗ sizeOf alpha ⊘ pi ⊖ (quarterChord ⊖ staticMargin c))
+
+unfoldable pub onSine : AeroCoefficients → Float → Float
+onSine c s = c .«c_pitch_0» ⊕ c .«c_pitch_alpha» ⊗ s
+
+-- from `attached` to the plate's by `share`, where share is above 0
+unfoldable pub pitchCoefficient : AeroCoefficients → Float → Float → Float → Float → Float
+pitchCoefficient c alpha blend s co =
+    cond (le (c .«post_stall_pitch_share» ⊗ blend) nought) (onSine c s)
+    (onSine c s ⊕ c .«post_stall_pitch_share» ⊗ blend ⊗ (c .«c_pitch_0» ⊕ flatPlatePitch c alpha s co ⊖ onSine c s))

@@ -1,0 +1,4 @@
+-- The aerodynamics of a fixed wing. Definitions only.
+pub mod Coefficients
+pub mod Wrench
+pub mod Reflection

@@ -1,0 +1,156 @@
+-- The aerodynamic wrench (01, module 6). The air's density is an argument, and so is the wash (module 5). Definitions only.
+use lib.Ieee.{Float, binary32, lt, neg}
+use mathlib.Core.Bool.{cond}
+use Rattle.fixed_wing.specs.declared.FixedWingModel.{FixedWingModel}
+use Rattle.float.specs.Notation.{_⊕_, _⊖_, _⊗_, _⊘_, atLeastZero, clamp, half, nought, one, two}
+use Rattle.libm.specs.Atan.{asinOf, atan2Of}
+use Rattle.libm.specs.Sqrt.{sqrtOf}
+use Rattle.libm.specs.Trig.{cosOf, sinOf}
+use Rattle.tailsitter_model.specs.declared.Wash.{Wash}
+use Rattle.vector.specs.Vector.{addOf, normOf, scaleOf, vec}
+use Rattle.vector.specs.declared.Vec3.{Vec3}
+use Rattle.aero.specs.Coefficients.{dragCoefficient, flatPlateDrag, liftCoefficient, linearLift, pitchCoefficient, stallBlend}
+use Rattle.aero.specs.declared.Aero.{Aero}
+use Rattle.aero.specs.declared.Flow.{Flow}
+
+-- ---- pressures
+-- dynamic pressure times wing area: ½ ρ V² S
+unfoldable pub pressureArea : FixedWingModel → Float → Float → Float
+pressureArea m v density = half ⊗ density ⊗ v ⊗ v ⊗ m .«wing_area_m2»
+
+-- the wash's, per unit of airspeed: ½ ρ V S
+unfoldable pub washRateScale : FixedWingModel → Wash → Float → Float
+washRateScale m w density = half ⊗ density ⊗ w .«damping_mps» ⊗ m .«wing_area_m2»
+
+-- what the surfaces see: the free stream's and the wash's, not below 0
+unfoldable pub withWash : Float → Float → Float → Float
+withWash free pa area = atLeastZero (free ⊕ pa ⊗ area)
+
+-- ---- rate terms, Beard and McLain, Small Unmanned Aircraft, ch. 4.2 and 4.3: ½ρV²S·b·(Clp (b/2V) p + Clr (b/2V) r), ½ρV²S·c·Cmq (c/2V) q
+-- departs: written per unit of airspeed, scale = ½ρVS, and not divided by it, so that they vanish smoothly with the airspeed
+unfoldable pub rateMoments : FixedWingModel → Float → Vec3 → Vec3
+rateMoments m scale rates =
+    vec
+    (scale ⊗ m .«span_m» ⊗ m .«span_m» ⊘ two ⊗ (m .aero .«c_roll_p» ⊗ rates .x ⊕ m .aero .«c_roll_r» ⊗ rates .z))
+    (scale ⊗ m .«chord_m» ⊗ m .«chord_m» ⊘ two ⊗ m .aero .«c_pitch_q» ⊗ rates .y)
+    (scale ⊗ m .«span_m» ⊗ m .«span_m» ⊘ two ⊗ (m .aero .«c_yaw_p» ⊗ rates .x ⊕ m .aero .«c_yaw_r» ⊗ rates .z))
+
+-- ---- the surfaces: aileron (x), elevator (y), rudder (z); the aileron's under `roll`, the others' under `area`
+unfoldable pub aileronMoment : FixedWingModel → Float → Vec3 → Vec3
+aileronMoment m roll d = vec (roll ⊗ m .«span_m» ⊗ m .aero .«c_roll_aileron» ⊗ d .x) nought nought
+
+unfoldable pub elevatorAndRudder : FixedWingModel → Vec3 → Vec3
+elevatorAndRudder m d =
+    vec (m .«span_m» ⊗ m .aero .«c_roll_rudder» ⊗ d .z) (m .«chord_m» ⊗ m .aero .«c_pitch_elevator» ⊗ d .y) (m .«span_m» ⊗ m .aero .«c_yaw_rudder» ⊗ d .z)
+
+unfoldable pub surfaceWrench : FixedWingModel → Float → Float → Vec3 → Aero
+surfaceWrench m roll area d = record {
+  «force_n» = vec nought (area ⊗ m .aero .«c_side_rudder» ⊗ d .z) nought;
+  «torque_nm» = addOf (aileronMoment m roll d) (scaleOf (elevatorAndRudder m d) area);
+  «alpha_rad» = nought;
+  «beta_rad» = nought;
+}
+
+-- the wash has one pressure for the roll action and one for the others
+unfoldable pub washedSurfaces : FixedWingModel → Wash → Float → Vec3 → Aero
+washedSurfaces m w free d = surfaceWrench m (withWash free (w .«roll_pressure_pa») (m .«wing_area_m2»)) (withWash free (w .«pressure_pa») (m .«wing_area_m2»)) d
+
+-- ---- the wash on the wing: always, and past the stall flying nose first by the free stream's share of the pressure
+unfoldable pub washPitch : FixedWingModel → Wash → Vec3
+washPitch m w = vec nought (w .«pitch_moment_pa» ⊗ m .«wing_area_m2» ⊗ m .«chord_m») nought
+
+unfoldable pub freeShare : Float → Float → Float
+freeShare free total = cond (lt nought total) (free ⊘ total) nought
+
+unfoldable pub stallShare : Flow → Float → Float → Float
+stallShare f free pa = f .blend ⊗ freeShare free (free ⊕ atLeastZero pa) ⊗ atLeastZero (f .«cos_alpha»)
+
+unfoldable pub stallWash : FixedWingModel → Flow → Float → Wash → Vec3
+stallWash m f area w = vec nought (stallShare f (area ⊘ m .«wing_area_m2») (w .«pressure_pa») ⊗ w .«stall_pitch_moment_pa» ⊗ m .«wing_area_m2» ⊗ m .«chord_m») nought
+
+-- ---- the flow in the plane of symmetry, which lift, drag and the pitch moment take: α = atan2(w, u), and the pressure of the speed √(u² + w²)
+unfoldable pub symmetricSpeed : Vec3 → Float
+symmetricSpeed air = sqrtOf binary32 (air .x ⊗ air .x ⊕ air .z ⊗ air .z)
+
+unfoldable pub flowAt : FixedWingModel → Float → Float → Flow
+flowAt m alpha area = record {
+  «alpha_rad» = alpha;
+  blend = stallBlend (m .aero) alpha;
+  «sin_alpha» = sinOf alpha;
+  «cos_alpha» = cosOf alpha;
+  «symmetric_area_n» = area;
+}
+
+unfoldable pub flowOf : FixedWingModel → Vec3 → Float → Flow
+flowOf m air density = flowAt m (atan2Of (air .z) (air .x)) (pressureArea m (symmetricSpeed air) density)
+
+-- β = asin(v / V)
+unfoldable pub sideslip : Float → Float → Float
+sideslip v speed = asinOf (clamp (neg one) one (v ⊘ speed))
+
+-- ---- forces: lift is normal to the air in the plane of symmetry, toward body -z; drag along it
+unfoldable pub flowLift : FixedWingModel → Flow → Float
+flowLift m f = f .«symmetric_area_n» ⊗ liftCoefficient (m .aero) (f .«alpha_rad») (f .blend) (f .«sin_alpha») (f .«cos_alpha»)
+
+unfoldable pub flowDrag : FixedWingModel → Flow → Float
+flowDrag m f =
+    f .«symmetric_area_n» ⊗ (one ⊖ f .blend) ⊗ dragCoefficient m (linearLift (m .aero) (f .«alpha_rad»))
+    ⊕ f .«symmetric_area_n» ⊗ f .blend ⊗ flatPlateDrag (m .aero) (f .«sin_alpha»)
+
+unfoldable pub flowForce : FixedWingModel → Flow → Float → Vec3
+flowForce m f side =
+    vec
+    (flowLift m f ⊗ f .«sin_alpha» ⊖ flowDrag m f ⊗ f .«cos_alpha»)
+    side
+    (neg (flowLift m f) ⊗ f .«cos_alpha» ⊖ flowDrag m f ⊗ f .«sin_alpha»)
+
+-- ---- static moments; the pressure of the whole airspeed for the sideslip terms
+unfoldable pub staticMoments : FixedWingModel → Flow → Float → Float → Vec3
+staticMoments m f area beta =
+    vec
+    (area ⊗ m .«span_m» ⊗ m .aero .«c_roll_beta» ⊗ beta)
+    (f .«symmetric_area_n» ⊗ m .«chord_m» ⊗ pitchCoefficient (m .aero) (f .«alpha_rad») (f .blend) (f .«sin_alpha») (f .«cos_alpha»))
+    (area ⊗ m .«span_m» ⊗ m .aero .«c_yaw_beta» ⊗ beta)
+
+-- ---- the whole
+unfoldable pub withSurfaces : Vec3 → Vec3 → Aero → Float → Float → Aero
+withSurfaces force torque s alpha beta = record {
+  «force_n» = addOf force (s .«force_n»);
+  «torque_nm» = addOf torque (s .«torque_nm»);
+  «alpha_rad» = alpha;
+  «beta_rad» = beta;
+}
+
+-- past the stall the surfaces lose a share of the free stream
+unfoldable pub surfaceFree : FixedWingModel → Flow → Float → Float
+surfaceFree m f area = area ⊗ (one ⊖ m .aero .«surface_stall_share» ⊗ f .blend)
+
+unfoldable pub torqueAt : FixedWingModel → Float → Flow → Float → Vec3 → Wash → Float → Float → Vec3
+torqueAt m speed f beta rates w density area =
+    addOf (addOf (addOf (staticMoments m f area beta) (washPitch m w)) (stallWash m f area w)) (rateMoments m (area ⊘ speed ⊕ washRateScale m w density) rates)
+
+unfoldable pub movingAt : FixedWingModel → Float → Flow → Float → Vec3 → Vec3 → Wash → Float → Float → Aero
+movingAt m speed f beta rates d w density area =
+    withSurfaces
+    (flowForce m f (area ⊗ m .aero .«c_side_beta» ⊗ beta))
+    (torqueAt m speed f beta rates w density area)
+    (washedSurfaces m w (surfaceFree m f area) d)
+    (f .«alpha_rad») beta
+
+unfoldable pub movingOf : FixedWingModel → Float → Flow → Float → Vec3 → Vec3 → Wash → Float → Aero
+movingOf m speed f beta rates d w density = movingAt m speed f beta rates d w density (pressureArea m speed density)
+
+unfoldable pub stillOf : FixedWingModel → Vec3 → Vec3 → Wash → Float → Aero
+stillOf m rates d w density =
+    let s = washedSurfaces m w nought d in
+    record {
+      «force_n» = s .«force_n»;
+      «torque_nm» = addOf (addOf (s .«torque_nm») (washPitch m w)) (rateMoments m (washRateScale m w density) rates);
+      «alpha_rad» = s .«alpha_rad»;
+      «beta_rad» = s .«beta_rad»;
+    }
+
+-- "air speed not above 0, NaN included, takes the still branch, alpha and beta 0"
+unfoldable pub wrenchOf : FixedWingModel → Vec3 → Vec3 → Vec3 → Wash → Float → Aero
+wrenchOf m air rates d w density =
+    cond (lt nought (normOf air)) (movingOf m (normOf air) (flowOf m air density) (sideslip (air .y) (normOf air)) rates d w density) (stillOf m rates d w density)

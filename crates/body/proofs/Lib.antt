@@ -1,0 +1,2 @@
+-- Laws of the rigid body.
+pub mod Mirror

@@ -1,0 +1,3 @@
+-- The rigid body. Definitions only.
+pub mod Motion
+pub mod Reflection

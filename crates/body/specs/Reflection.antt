@@ -1,0 +1,16 @@
+-- A body and its loads seen in a mirror of left and right (01, "Reflection negates"): velocity and position east, i, k, p, r turn their sign. Definitions only.
+use mathlib.Core.Bool.{false, true}
+use Rattle.vector.specs.Reflection.{QuatRel, VecRel}
+use Rattle.body.specs.declared.Body.{Body}
+use Rattle.body.specs.declared.Loads.{Loads}
+
+pub record BodyRel (b b' : Body) : Type 0 where
+  pub position : VecRel false (b .«position_ned_m») (b' .«position_ned_m»)
+  pub velocity : VecRel false (b .«velocity_ned_mps») (b' .«velocity_ned_mps»)
+  pub attitude : QuatRel (b .attitude) (b' .attitude)
+  pub rates : VecRel true (b .«angular_velocity_radps») (b' .«angular_velocity_radps»)
+
+pub record LoadsRel (l l' : Loads) : Type 0 where
+  pub force : VecRel false (l .«force_ned_n») (l' .«force_ned_n»)
+  pub torque : VecRel true (l .«torque_nm») (l' .«torque_nm»)
+  pub damping : VecRel true (l .«damping_nm») (l' .«damping_nm»)

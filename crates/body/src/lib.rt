@@ -1,0 +1,103 @@
+// Rigid-body motion in the NED world frame and FRD body frame.
+ghost use mathlib.Core.Path.{_≡_};
+ghost use Rattle.body.specs.Motion as Motion;
+use vector::Quaternion;
+use vector::Vec3;
+
+// Standard gravity, in m/s².
+const GRAVITY: f32 = 9.80665;
+
+// The body's state: world NED (z down), body FRD.
+pub struct Body {
+    // World position (north, east, down), in m.
+    pub position_ned_m: Vec3,
+    // World velocity (north, east, down), in m/s.
+    pub velocity_ned_mps: Vec3,
+    // `attitude` turns a vector on body axes into world axes.
+    pub attitude: Quaternion,
+    // FRD body rates (roll, pitch, yaw), in rad/s.
+    pub angular_velocity_radps: Vec3,
+}
+
+// A body's mass and principal moments of inertia.
+pub struct MassProperties {
+    pub mass_kg: f32,
+    // About the FRD body axes (roll, pitch, yaw).
+    pub inertia_kgm2: Vec3,
+}
+
+// The forces and torques on the body during one step, gravity aside.
+pub struct Loads {
+    // Force (north, east, down): thrust, drag and lift.
+    pub force_ned_n: Vec3,
+    // Torque on the FRD body axes.
+    pub torque_nm: Vec3,
+    // Rotational damping torque: subtracted from the torque.
+    pub damping_nm: Vec3,
+}
+
+impl Body {
+    // Advances `h` seconds under `loads` and gravity: velocities first, then position and attitude from the new velocities.
+    pub fn step(self, mass: MassProperties, loads: Loads, h: f32) -> Self
+        ensures { λ r. ⌜ r ≡ Motion.stepOf self mass loads h ⌝ }
+    {
+        let velocity = self.velocity_ned_mps;
+        let position = self.position_ned_m;
+        let attitude = self.attitude;
+        let rates = self.angular_velocity_radps;
+        let force = loads.force_ned_n;
+        let inertia = mass.inertia_kgm2;
+
+        let velocity_ned_mps = velocity.add(acceleration(force, mass.mass_kg).scale(h));
+        let position_ned_m = position.add(velocity_ned_mps.scale(h));
+        let angular_velocity_radps = next_rates(rates, inertia, loads, h);
+        Body {
+            position_ned_m,
+            velocity_ned_mps,
+            attitude: next_attitude(attitude, angular_velocity_radps, h),
+            angular_velocity_radps,
+        }
+    }
+
+    // The body's velocity through the air (north, east, down) in the wind.
+    pub fn air_relative_velocity_ned_mps(self, wind_ned_mps: Vec3) -> Vec3
+        ensures { λ r. ⌜ r ≡ Motion.airVelocity self «wind_ned_mps» ⌝ }
+    {
+        let velocity = self.velocity_ned_mps;
+        velocity.sub(wind_ned_mps)
+    }
+}
+
+// By the force and gravity, down.
+fn acceleration(force_ned_n: Vec3, mass_kg: f32) -> Vec3
+    ensures { λ r. ⌜ r ≡ Motion.accelerationOf «force_ned_n» «mass_kg» ⌝ }
+{
+    force_ned_n
+        .unscale(mass_kg)
+        .add(Vec3::new(0.0, 0.0, GRAVITY))
+}
+
+// Euler's equations for a diagonal inertia, gyroscopic term included.
+fn net_torque(rates: Vec3, inertia: Vec3, loads: Loads) -> Vec3
+    ensures { λ r. ⌜ r ≡ Motion.netTorque rates inertia loads ⌝ }
+{
+    let torque = loads.torque_nm;
+    let damping = loads.damping_nm;
+    let momentum = inertia.component_mul(rates);
+    torque.sub(rates.cross(momentum)).sub(damping)
+}
+
+fn next_rates(rates: Vec3, inertia: Vec3, loads: Loads, h: f32) -> Vec3
+    ensures { λ r. ⌜ r ≡ Motion.nextRates rates inertia loads h ⌝ }
+{
+    let turning = net_torque(rates, inertia, loads).component_div(inertia);
+    rates.add(turning.scale(h))
+}
+
+// Body rates turn the body frame, so the increment composes on the right.
+fn next_attitude(attitude: Quaternion, rates: Vec3, h: f32) -> Quaternion
+    ensures { λ r. ⌜ r ≡ Motion.nextAttitude attitude rates h ⌝ }
+{
+    let turn = Quaternion::from_scaled_axis(rates.scale(h));
+    attitude.times(turn).renormalize_fast()
+}

@@ -1,0 +1,3 @@
+-- The flight state. Definitions only.
+pub mod Envelope
+pub mod Reflection

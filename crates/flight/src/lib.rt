@@ -1,0 +1,111 @@
+// The flight state, one plain record of floats, and what a tick is given.
+ghost use mathlib.Core.Path.{_≡_};
+ghost use Prim.Native.Nat.{_≤_};
+ghost use lib.ListN.{length};
+ghost use Rattle.flight.specs.Envelope as Envelope;
+use vector::Quaternion;
+use vector::Vec3;
+
+// The body on NED world axes and FRD body axes, and the commands that motors and servos run at.
+pub struct Flight {
+    pub position_ned_m: Vec3,
+    pub velocity_ned_mps: Vec3,
+    pub attitude: Quaternion,
+    // FRD body rates p, q, r.
+    pub angular_velocity_radps: Vec3,
+    pub motors: [f32; 8],
+    pub servos: [f32; 8],
+}
+
+// One tick's step, wind (NED) and commands.
+pub struct Tick {
+    pub step_s: f32,
+    pub wind_ned_mps: Vec3,
+    pub motors: [f32; 8],
+    pub servos: [f32; 8],
+}
+
+impl Flight {
+    // A state of zeros.
+    pub fn zero() -> Self
+        ensures { λ r. ⌜ r ≡ Envelope.zeroFlight ⌝ }
+    {
+        let zero = Vec3::zeros();
+        let attitude = Quaternion {
+            w: 0.0,
+            i: 0.0,
+            j: 0.0,
+            k: 0.0,
+        };
+        let motors = [0.0; 8];
+        let servos = [0.0; 8];
+        Flight {
+            position_ned_m: zero,
+            velocity_ned_mps: zero,
+            attitude,
+            angular_velocity_radps: zero,
+            motors,
+            servos,
+        }
+    }
+
+    // Which test of the envelope the state breaks first, counted from 1 in the state's own order, the attitude's four as one;
+    // 0 where it is inside.
+    pub fn outside(self) -> u32
+        ensures { λ r. ⌜ r ≡ Envelope.outsideOf self ⌝ }
+    {
+        let running = self.motors;
+        let positions = self.servos;
+        let servos = float::after(18, slots_outside(positions, -1.0, 1.0));
+        let motors = float::after(10, slots_outside(running, 0.0, 1.0));
+        let rates = float::after(7, vec_outside(self.angular_velocity_radps, 100.0));
+        let attitude = float::after(6, attitude_outside(self.attitude));
+        let velocity = float::after(3, vec_outside(self.velocity_ned_mps, 1000.0));
+        let position = vec_outside(self.position_ned_m, 1000000.0);
+        let body = float::or_else(velocity, float::or_else(attitude, rates));
+        float::or_else(
+            position,
+            float::or_else(body, float::or_else(motors, servos)),
+        )
+    }
+}
+
+// 1 where the attitude's N lies outside 0.9..1.1, else 0.
+fn attitude_outside(attitude: Quaternion) -> u32
+    ensures { λ r. ⌜ r ≡ Envelope.attitudeOutside attitude ⌝ ∗ ⌜ r ≤ 1 ⌝ }
+{
+    if float::inside(attitude.norm_squared(), 0.9, 1.1) {
+        return 0;
+    }
+    1
+}
+
+// Which component is larger in size than `limit`, counted from 1; 0 for none.
+fn vec_outside(v: Vec3, limit: f32) -> u32
+    ensures { λ r. ⌜ r ≡ Envelope.vecOutside limit v ⌝ ∗ ⌜ r ≤ 3 ⌝ }
+{
+    if float::inside(v.x, -limit, limit) {
+        if float::inside(v.y, -limit, limit) {
+            if float::inside(v.z, -limit, limit) {
+                return 0;
+            }
+            return 3;
+        }
+        return 2;
+    }
+    1
+}
+
+// Which slot's value lies outside low..high, counted from 1; 0 for none.
+fn slots_outside(values: [f32; 8], low: f32, high: f32) -> u32
+    ensures { λ r. ⌜ r ≡ Envelope.slotsOutside low high values ⌝ ∗ ⌜ r ≤ 8 ⌝ }
+{
+    let mut i = 0u32;
+    while i < 8 {
+        if !float::inside(values[i as usize], low, high) {
+            return i + 1;
+        }
+        i += 1;
+    }
+    0
+}
