@@ -4,6 +4,7 @@ use lib.Dec.{T, eqb·suc-zero}
 use lib.Ieee.{Float, le, neg}
 use mathlib.Core.Bool.{Bool, _&&_, cond, false, false≢true, not, true}
 use mathlib.Core.Path.{_∙_, _≡_, ap, ap₂, refl, subst, sym}
+use native.Mathlib.Nat.{zero-add}
 use native.Mathlib.Numerals.{add-one}
 use native.Mathlib.Omega.{arith}
 use Rattle.float.proofs.Mirror.{r-le, r-le-opp, r-same}
@@ -42,7 +43,7 @@ cond-none false x y e = absurd (none y e)
     none : (y : ℕ) → suc y ≡ 0 → ⊥
     none y e = omega arith
 
-pub all-hold : (ok : ℕ → Bool) (i n : ℕ) → firstFail ok i n ≡ 0 → (k : ℕ) → k < n → ok (i + k) ≡ true
+all-hold : (ok : ℕ → Bool) (i n : ℕ) → firstFail ok i n ≡ 0 → (k : ℕ) → k < n → ok (i + k) ≡ true
 unfolding firstFail
 all-hold ok i zero e k l = absurd (none k l)
   where
@@ -53,6 +54,9 @@ all-hold ok i (suc n) e (suc k) l = ap ok (shift i k) ∙ all-hold ok (suc i) n 
   where
     shift : (i k : ℕ) → i + suc k ≡ suc i + k
     shift i k = omega arith
+
+pub all-pass : (ok : ℕ → Bool) (n : ℕ) → firstFail ok 0 n ≡ 0 → (k : ℕ) → k < n → ok k ≡ true
+all-pass ok n e k l = sym (ap ok (zero-add k)) ∙ all-hold ok 0 n e k l
 
 -- ---- where each holds, none fails
 pub none-fails : (ok : ℕ → Bool) (i n : ℕ) → ((k : ℕ) → ok k ≡ true) → firstFail ok i n ≡ 0

@@ -1,5 +1,4 @@
 -- `aero::pitch_coefficient` meets its contract. Assumes nothing.
-use Prim.Native.Nat.{zero}
 use lib.Ieee.{Float, le, ofBits}
 use mathlib.Core.Bool.{cond, false, true}
 use mathlib.Core.Path.{_≡_}
@@ -13,8 +12,8 @@ use Rattle.aero.proofs.pitch_coefficient.Tie as tie
 first-is : (share on off : Float) → le share nought ≡ true → on ≡ cond (le share nought) on off
 first-is share on off e = rw e
 
-second-is : (share on pitch zero : Float) (plate plate' : Float) → le share nought ≡ false → plate' ≡ plate → on ⊕ share ⊗ (zero ⊕ plate' ⊖ on) ≡ cond (le share nought) pitch (on ⊕ share ⊗ (zero ⊕ plate ⊖ on))
-second-is share on pitch zero plate plate' e f = rw (e, f)
+second-is : (share on pitch base : Float) (plate plate' : Float) → le share nought ≡ false → plate' ≡ plate → on ⊕ share ⊗ (base ⊕ plate' ⊖ on) ≡ cond (le share nought) pitch (on ⊕ share ⊗ (base ⊕ plate ⊖ on))
+second-is share on pitch base plate plate' e f = rw (e, f)
 
 returns : tie.Need-returns
 unfolding pitchCoefficient onSine ofBits

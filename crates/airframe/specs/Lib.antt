@@ -1,0 +1,4 @@
+-- The airframe. Definitions only.
+pub mod Numbers
+pub mod Acceptance
+pub mod Reflection

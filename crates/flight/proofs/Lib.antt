@@ -1,0 +1,3 @@
+-- Laws of the flight state.
+pub mod Range
+pub mod Mirror
