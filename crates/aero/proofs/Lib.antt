@@ -1,2 +1,3 @@
 -- Laws of the aerodynamics.
 pub mod Mirror
+pub mod Range
