@@ -1,12 +1,20 @@
 -- `airframe::first_outside` meets its contract. Assumes nothing.
-use Prim.Native.Nat.{_-_, _≤_}
+use Prim.Native.Nat.{_-_, _≤_, ℕ}
+use lib.Ieee.{Float, low, ofBits, round}
+use mathlib.Core.List.{List}
+use mathlib.Core.Path.{_∙_, _≡_, ap, refl, sym}
+use native.Mathlib.Omega.{arith}
 use borrow.Author.Needs.{needs}
-use lib.Ieee.{low, ofBits, round}
-use mathlib.Core.Path.{_≡_, refl}
+use Rattle.float.proofs.Ordered.{fail-end, fail-here, fail-next, not-false, not-true}
+use Rattle.float.specs.Interval.{inside}
 use Rattle.float.specs.Ordered.{firstFail}
-use Rattle.airframe.specs.Acceptance.{highTable, placeInside}
+use Rattle.mixers.specs.Slots.{at}
+use Rattle.airframe.specs.Acceptance.{firstOutside, highTable, placeInside}
 use Rattle.airframe.proofs.first_outside.Statement.{statement}
 use Rattle.airframe.proofs.first_outside.Tie as tie
+
+whole : (n : ℕ) → n ≡ n - 0
+whole n = omega arith
 
 abbrev Inv-loop : tie.InvT-loop
 Inv-loop count numbers low high i₀ i = (i ≤ count) × (count ≤ 48) × (high ≡ highTable) × (firstFail (placeInside low numbers) 0 count ≡ firstFail (placeInside low numbers) i (count - i))
@@ -16,7 +24,7 @@ abbrev μ-loop : tie.MeasureT-loop
 
 loop-holds : tie.Need-loop-holds Inv-loop μ-loop
 unfolding highTable ofBits round
-loop-holds c = (search needs, search needs, refl, refl)
+loop-holds c = (search needs, search needs, refl, ap (firstFail _ 0) (whole (c .args .count)))
 
 mul-inside : tie.Need-mul-inside Inv-loop μ-loop
 mul-inside c = search needs
@@ -46,7 +54,11 @@ cast-result : tie.Need-cast-result Inv-loop μ-loop
 cast-result c = search needs
 
 returns : tie.Need-returns Inv-loop μ-loop
-returns c = ?
+unfolding firstOutside placeInside
+returns c =
+    let s = c .before .before .before in
+    let h = s .loop .inv .2 in
+    (sym (s .loop .inv .3 ∙ fail-here _ (s .loop .i) _ (c .before .before .loop-test .taken) (sym (c .before .inside .ensures ∙ ap (λ (l : List Float). inside (at (s .before .args .t2) (s .loop .i)) (at l (s .loop .i)) (at (s .before .args .t1) (s .loop .i))) h) ∙ not-true (c .if1 .taken))), search needs)
 
 add-i : tie.Need-add-i Inv-loop μ-loop
 add-i c = search needs
@@ -55,10 +67,15 @@ loop-less : tie.Need-loop-less Inv-loop μ-loop
 loop-less c = search needs
 
 loop-again : tie.Need-loop-again Inv-loop μ-loop
-loop-again c = ?
+unfolding placeInside
+loop-again c =
+    let s = c .before .before .before in
+    let h = s .loop .inv .2 in
+    (search needs, search needs, h, s .loop .inv .3 ∙ fail-next _ (s .loop .i) _ (c .before .before .loop-test .taken) (sym (c .before .inside .ensures ∙ ap (λ (l : List Float). inside (at (s .before .args .t2) (s .loop .i)) (at l (s .loop .i)) (at (s .before .args .t1) (s .loop .i))) h) ∙ not-false (c .if1 .left)))
 
 returns-2 : tie.Need-returns-2 Inv-loop μ-loop
-returns-2 c = ?
+unfolding firstOutside
+returns-2 c = (sym (c .before .loop .inv .3 ∙ fail-end _ (c .before .loop .i) _ (c .loop-test .left)), search needs)
 
 pub first-outside-spec : {M : Type 1} → statement M
 first-outside-spec =
