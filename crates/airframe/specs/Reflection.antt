@@ -2,16 +2,11 @@
 -- reflection as numbers. Definitions only.
 use Prim.Native.Nat.{ℕ}
 use mathlib.Core.Bool.{true}
-use mathlib.Core.List.{List}
+use mathlib.Core.List.{map}
 use mathlib.Core.Path.{_≡_}
-use Rattle.mixers.specs.Slots.{slots, vecAt}
+use Rattle.mixers.specs.Slots.{vecAt}
 use Rattle.vector.specs.Reflection.{VecRel, reflectAxis}
-use Rattle.vector.specs.declared.Vec3.{Vec3}
 use Rattle.airframe.specs.declared.Airframe.{Airframe}
-
--- at each slot
-unfoldable pub reflectAt : List Vec3 → ℕ → Vec3
-reflectAt vs k = reflectAxis (vecAt vs k)
 
 unfoldable pub reflectAirframe : Airframe → Airframe
 reflectAirframe a = record {
@@ -21,8 +16,8 @@ reflectAirframe a = record {
   «wash_present» = a .«wash_present»;
   wash = a .wash;
   used = a .used;
-  «torque_per_thrust_m» = slots (reflectAt (a .«torque_per_thrust_m»));
-  weights = slots (reflectAt (a .weights));
+  «torque_per_thrust_m» = map reflectAxis (a .«torque_per_thrust_m»);
+  weights = map reflectAxis (a .weights);
 }
 
 pub record AirframeRel (a a' : Airframe) : Type 0 where

@@ -1,0 +1,3 @@
+-- Laws of the airframe.
+pub mod Range
+pub mod Mirror
