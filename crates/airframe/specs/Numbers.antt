@@ -1,10 +1,15 @@
 -- The airframe's numbers by place (01, "Airframe numbers by place"). Definitions only.
 use lib.Ieee.{Float}
+use lib.ListN.{replicate}
+use mathlib.Core.Bool.{false}
 use mathlib.Core.List.{List, [], _∷_}
+use Rattle.fixed_wing.specs.declared.AeroCoefficients.{AeroCoefficients}
 use Rattle.fixed_wing.specs.declared.FixedWingModel.{FixedWingModel}
 use Rattle.fixed_wing.specs.declared.ThrustFalloff.{ThrustFalloff}
 use Rattle.fixed_wing.specs.declared.ThrustFalloff.the-variants.{Linear, PitchSpeed}
+use Rattle.float.specs.Notation.{nought}
 use Rattle.tailsitter_model.specs.declared.PropWash.{PropWash}
+use Rattle.vector.specs.Vector.{zeroVec}
 use Rattle.airframe.specs.declared.Airframe.{Airframe}
 
 abbrev pub falloffNumber : ThrustFalloff → Float
@@ -29,3 +34,39 @@ washNumbers w = w .«disc_area_m2» ∷ w .«surface_fraction» ∷ w .«roll_fr
 -- 40 the arm, 41 the yaw torque
 unfoldable pub numbersOf : Airframe → List Float
 numbersOf a = modelNumbers (a .model) (a .«moment_arm_m» ∷ a .«yaw_torque_per_thrust_m» ∷ washNumbers (a .wash))
+
+-- what a refused read returns: zeros, falloff Linear 0, no wash, no motor used
+unfoldable pub zeroCoefficients : AeroCoefficients
+zeroCoefficients = record { «c_lift_0» = nought; «c_lift_alpha» = nought; «alpha_stall_rad» = nought; «stall_sharpness» = nought; «c_drag_0» = nought; oswald = nought; «c_side_beta» = nought; «c_side_rudder» = nought; «c_roll_beta» = nought; «c_roll_p» = nought; «c_roll_r» = nought; «c_roll_aileron» = nought; «c_roll_rudder» = nought; «c_pitch_0» = nought; «c_pitch_alpha» = nought; «post_stall_pitch_share» = nought; «c_pitch_q» = nought; «c_pitch_elevator» = nought; «surface_stall_share» = nought; «c_yaw_beta» = nought; «c_yaw_p» = nought; «c_yaw_r» = nought; «c_yaw_rudder» = nought }
+
+unfoldable pub zeroModel : FixedWingModel
+zeroModel = record {
+  «mass_kg» = nought;
+  «inertia_kgm2» = zeroVec;
+  «wing_area_m2» = nought;
+  «span_m» = nought;
+  «chord_m» = nought;
+  aero = zeroCoefficients;
+  «max_deflection_rad» = zeroVec;
+  «servo_time_constant_s» = nought;
+  «max_thrust_n» = nought;
+  «thrust_exponent» = nought;
+  «thrust_falloff» = Linear nought;
+  «thrust_line_below_cg_m» = nought;
+  «motor_time_constant_s» = nought;
+}
+
+unfoldable pub zeroWash : PropWash
+zeroWash = record { «disc_area_m2» = nought; «surface_fraction» = nought; «roll_fraction» = nought; «damping_fraction» = nought; «sink_loss» = nought; «pitch_moment» = nought; «stall_pitch_moment» = nought }
+
+unfoldable pub zeroAirframe : Airframe
+zeroAirframe = record {
+  model = zeroModel;
+  «moment_arm_m» = nought;
+  «yaw_torque_per_thrust_m» = nought;
+  «wash_present» = false;
+  wash = zeroWash;
+  used = replicate 8 false;
+  «torque_per_thrust_m» = replicate 8 zeroVec;
+  weights = replicate 8 zeroVec;
+}

@@ -283,3 +283,82 @@ fn vec_inside(v: Vec3, limit: f32) -> bool
     }
     false
 }
+
+impl Airframe {
+    // The airframe that a refused read returns: zeros, falloff Linear 0, no wash, no motor used.
+    pub fn zero() -> Self
+        ensures { λ r. ⌜ r ≡ Numbers.zeroAirframe ⌝ }
+    {
+        let model = zero_model();
+        let wash = PropWash {
+            disc_area_m2: 0.0,
+            surface_fraction: 0.0,
+            roll_fraction: 0.0,
+            damping_fraction: 0.0,
+            sink_loss: 0.0,
+            pitch_moment: 0.0,
+            stall_pitch_moment: 0.0,
+        };
+        let used = [false; 8];
+        let torque_per_thrust_m = [Vec3::zeros(); 8];
+        let weights = [Vec3::zeros(); 8];
+        Airframe {
+            model,
+            moment_arm_m: 0.0,
+            yaw_torque_per_thrust_m: 0.0,
+            wash_present: false,
+            wash,
+            used,
+            torque_per_thrust_m,
+            weights,
+        }
+    }
+}
+
+fn zero_model() -> FixedWingModel
+    ensures { λ r. ⌜ r ≡ Numbers.zeroModel ⌝ }
+{
+    let aero = AeroCoefficients {
+        c_lift_0: 0.0,
+        c_lift_alpha: 0.0,
+        alpha_stall_rad: 0.0,
+        stall_sharpness: 0.0,
+        c_drag_0: 0.0,
+        oswald: 0.0,
+        c_side_beta: 0.0,
+        c_side_rudder: 0.0,
+        c_roll_beta: 0.0,
+        c_roll_p: 0.0,
+        c_roll_r: 0.0,
+        c_roll_aileron: 0.0,
+        c_roll_rudder: 0.0,
+        c_pitch_0: 0.0,
+        c_pitch_alpha: 0.0,
+        post_stall_pitch_share: 0.0,
+        c_pitch_q: 0.0,
+        c_pitch_elevator: 0.0,
+        surface_stall_share: 0.0,
+        c_yaw_beta: 0.0,
+        c_yaw_p: 0.0,
+        c_yaw_r: 0.0,
+        c_yaw_rudder: 0.0,
+    };
+    let inertia_kgm2 = Vec3::zeros();
+    let max_deflection_rad = Vec3::zeros();
+    let thrust_falloff = ThrustFalloff::Linear(0.0);
+    FixedWingModel {
+        mass_kg: 0.0,
+        inertia_kgm2,
+        wing_area_m2: 0.0,
+        span_m: 0.0,
+        chord_m: 0.0,
+        aero,
+        max_deflection_rad,
+        servo_time_constant_s: 0.0,
+        max_thrust_n: 0.0,
+        thrust_exponent: 0.0,
+        thrust_falloff,
+        thrust_line_below_cg_m: 0.0,
+        motor_time_constant_s: 0.0,
+    }
+}

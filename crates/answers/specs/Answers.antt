@@ -1,0 +1,29 @@
+-- What the bench replies: the number and the place of each answer (01's table). Definitions only.
+use Prim.Native.Nat.{ℕ}
+use Rattle.answers.specs.declared.Answer.{Answer}
+use Rattle.answers.specs.declared.Answer.the-variants.{Departure, Done, NumberOutOfRange, ReservedBit, StateOutside, StepOutside, TooManyRows, WrongFalloff, WrongLength, WrongVersion}
+
+abbrev pub numberOf : Answer → ℕ
+numberOf Done = 0
+numberOf WrongLength = 1
+numberOf WrongVersion = 2
+numberOf WrongFalloff = 3
+numberOf ReservedBit = 4
+numberOf TooManyRows = 5
+numberOf (NumberOutOfRange p) = 6
+numberOf StateOutside = 7
+numberOf StepOutside = 8
+numberOf Departure = 9
+
+-- place is 0 except for 6
+abbrev pub placeOf : Answer → ℕ
+placeOf (NumberOutOfRange p) = p
+placeOf Done = 0
+placeOf WrongLength = 0
+placeOf WrongVersion = 0
+placeOf WrongFalloff = 0
+placeOf ReservedBit = 0
+placeOf TooManyRows = 0
+placeOf StateOutside = 0
+placeOf StepOutside = 0
+placeOf Departure = 0

@@ -1,0 +1,2 @@
+-- The replies. Definitions only.
+pub mod Answers
