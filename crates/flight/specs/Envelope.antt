@@ -1,6 +1,7 @@
 -- The envelope (01, "Envelope"): position within ±1,000,000, velocity ±1,000, N in 0.9..1.1, rates ±100, motors 0..1, servos -1..1, all slots. One ordered definition that
 -- names the first test that breaks; a NaN is outside, -0 is 0. Definitions only.
 use Prim.Native.Nat.{ℕ}
+use lib.Dec.{eqb}
 use lib.Ieee.{Float, low, neg}
 use lib.ListN.{replicate}
 use mathlib.Core.Bool.{Bool, cond}
@@ -46,3 +47,7 @@ outsideOf f =
     (orElse
     (orElse (after 3 (vecOutside (rounded 1000 1) (f .«velocity_ned_mps»))) (orElse (after 6 (attitudeOutside (f .attitude))) (after 7 (vecOutside (rounded 100 1) (f .«angular_velocity_radps»)))))
     (orElse (after 10 (slotsOutside nought one (f .motors))) (after 18 (slotsOutside minusOne one (f .servos)))))
+
+-- an accepted state: 7 does not hold of it
+unfoldable pub isInside : Flight → Bool
+isInside f = eqb (outsideOf f) 0

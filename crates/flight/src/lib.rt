@@ -109,3 +109,12 @@ fn slots_outside(values: [f32; 8], low: f32, high: f32) -> u32
     }
     0
 }
+
+impl Flight {
+    // Whether the state is inside the envelope.
+    pub fn is_inside(self) -> bool
+        ensures { λ r. ⌜ r ≡ Envelope.isInside self ⌝ }
+    {
+        self.outside() == 0
+    }
+}

@@ -1,0 +1,147 @@
+-- The state block and the tick block (01, "Blocks"): which number stands where in the bytes, and what reading and writing a state block gives. A block's bytes are a list of numbers below 256.
+-- Definitions only.
+use Prim.Native.Nat.{_*_, _+_, suc, zero, ℕ}
+use lib.Dec.{eqb}
+use lib.Ieee.{Float, binary32, ofBits, toBits}
+use lib.ListN.{length}
+use mathlib.Core.Bool.{cond}
+use mathlib.Core.List.{List}
+use Rattle.answers.specs.declared.Answer.{Answer}
+use Rattle.answers.specs.declared.Answer.the-variants.{Done, StateOutside, WrongLength}
+use Rattle.flight.specs.Envelope.{outsideOf, zeroFlight}
+use Rattle.flight.specs.declared.Flight.{Flight}
+use Rattle.flight.specs.declared.Tick.{Tick}
+use Rattle.float.specs.Bytes.{put, word}
+use Rattle.mixers.specs.Slots.{at, slots}
+use Rattle.vector.specs.Rotation.{quat}
+use Rattle.vector.specs.Vector.{vec}
+use Rattle.vector.specs.declared.Quaternion.{Quaternion}
+use Rattle.vector.specs.declared.Vec3.{Vec3}
+use Rattle.state_block.specs.declared.StateRead.{StateRead}
+
+-- ---- the table of places: at which byte of its block each part begins
+
+-- a state, 116 bytes: position, velocity (north, east, down), attitude w i j k, body rates p q r, running motors 8, running servos 8
+abbrev pub stateBytes : ℕ
+stateBytes = 116
+
+abbrev pub positionAt : ℕ
+positionAt = 0
+
+abbrev pub velocityAt : ℕ
+velocityAt = 12
+
+abbrev pub attitudeAt : ℕ
+attitudeAt = 24
+
+abbrev pub ratesAt : ℕ
+ratesAt = 40
+
+abbrev pub motorsAt : ℕ
+motorsAt = 52
+
+abbrev pub servosAt : ℕ
+servosAt = 84
+
+-- a tick, 80 bytes: step h, wind 3 (north, east, down), motor commands 8, servo commands 8
+abbrev pub tickBytes : ℕ
+tickBytes = 80
+
+abbrev pub stepAt : ℕ
+stepAt = 0
+
+abbrev pub windAt : ℕ
+windAt = 4
+
+abbrev pub motorCommandsAt : ℕ
+motorCommandsAt = 16
+
+abbrev pub servoCommandsAt : ℕ
+servoCommandsAt = 48
+
+-- ---- reading: every number is an f32 of 4 bytes, the highest first
+
+unfoldable pub floatAt : List ℕ → ℕ → Float
+floatAt s i = ofBits binary32 (word s i)
+
+unfoldable pub vecFrom : List ℕ → ℕ → Vec3
+vecFrom s i = vec (floatAt s i) (floatAt s (i + 4)) (floatAt s (i + 8))
+
+unfoldable pub attitudeFrom : List ℕ → ℕ → Quaternion
+attitudeFrom s i = quat (floatAt s i) (floatAt s (i + 4)) (floatAt s (i + 8)) (floatAt s (i + 12))
+
+-- the number of slot k, where slot 0's stands at i
+unfoldable pub slotFrom : List ℕ → ℕ → ℕ → Float
+slotFrom s i k = floatAt s (i + 4 * k)
+
+unfoldable pub floatsFrom : List ℕ → ℕ → List Float
+floatsFrom s i = slots (slotFrom s i)
+
+-- the state whose block begins at i
+unfoldable pub flightFrom : List ℕ → ℕ → Flight
+flightFrom s i = record {
+  «position_ned_m» = vecFrom s (i + positionAt);
+  «velocity_ned_mps» = vecFrom s (i + velocityAt);
+  attitude = attitudeFrom s (i + attitudeAt);
+  «angular_velocity_radps» = vecFrom s (i + ratesAt);
+  motors = floatsFrom s (i + motorsAt);
+  servos = floatsFrom s (i + servosAt);
+}
+
+-- the tick whose block begins at i
+unfoldable pub tickFrom : List ℕ → ℕ → Tick
+tickFrom s i = record {
+  «step_s» = floatAt s (i + stepAt);
+  «wind_ned_mps» = vecFrom s (i + windAt);
+  motors = floatsFrom s (i + motorCommandsAt);
+  servos = floatsFrom s (i + servoCommandsAt);
+}
+
+-- ---- reading a state block (01, "What the bench replies": "State: 1, 7", "A refused read returns .. state of zeros")
+
+unfoldable pub refusedState : Answer → StateRead
+refusedState a = record { answer = a; flight = zeroFlight }
+
+unfoldable pub acceptedState : Flight → StateRead
+acceptedState f = record { answer = Done; flight = f }
+
+-- a state within the envelope is read
+unfoldable pub testedState : Flight → StateRead
+testedState f = cond (eqb (outsideOf f) 0) (acceptedState f) (refusedState StateOutside)
+
+unfoldable pub readStateOf : List ℕ → StateRead
+readStateOf s = cond (eqb (length s) stateBytes) (testedState (flightFrom s 0)) (refusedState WrongLength)
+
+-- ---- writing: one number after the other, in the block's order
+
+unfoldable pub putFloat : List ℕ → ℕ → Float → List ℕ
+putFloat s i x = put s i (toBits binary32 x)
+
+unfoldable pub putVec : List ℕ → ℕ → Vec3 → List ℕ
+putVec s i v = putFloat (putFloat (putFloat s i (v .x)) (i + 4) (v .y)) (i + 8) (v .z)
+
+unfoldable pub putAttitude : List ℕ → ℕ → Quaternion → List ℕ
+putAttitude s i q = putFloat (putFloat (putFloat (putFloat s i (q .w)) (i + 4) (q .i)) (i + 8) (q .j)) (i + 12) (q .k)
+
+-- the first n slots' numbers
+unfoldable pub putFloats : List ℕ → ℕ → List Float → ℕ → List ℕ
+putFloats s i xs zero = s
+putFloats s i xs (suc n) = putFloat (putFloats s i xs n) (i + 4 * n) (at xs n)
+
+-- the body's numbers, then the running values
+unfoldable pub putBody : List ℕ → ℕ → Flight → List ℕ
+putBody s i f =
+    putVec
+    (putAttitude (putVec (putVec s (i + positionAt) (f .«position_ned_m»)) (i + velocityAt) (f .«velocity_ned_mps»)) (i + attitudeAt) (f .attitude))
+    (i + ratesAt)
+    (f .«angular_velocity_radps»)
+
+unfoldable pub putFlight : List ℕ → ℕ → Flight → List ℕ
+putFlight s i f = putFloats (putFloats (putBody s i f) (i + motorsAt) (f .motors) 8) (i + servosAt) (f .servos) 8
+
+-- "Writing a state needs exactly 116 bytes lent, else 1; its numbers are not tested": refused, the bytes stay as found
+unfoldable pub writtenState : List ℕ → Flight → List ℕ
+writtenState s f = cond (eqb (length s) stateBytes) (putFlight s 0 f) s
+
+unfoldable pub writeAnswer : List ℕ → Answer
+writeAnswer s = cond (eqb (length s) stateBytes) Done WrongLength

@@ -1,0 +1,4 @@
+-- The reference tick. Definitions only.
+pub mod Loads
+pub mod Tick
+pub mod Reflection

@@ -1,0 +1,72 @@
+-- The loads on the body (01, module 8: loads without lift group and delay line). Definitions only.
+use lib.Ieee.{Float}
+use mathlib.Core.Bool.{cond}
+use Rattle.aero.specs.Wrench.{wrenchOf}
+use Rattle.aero.specs.declared.Aero.{Aero}
+use Rattle.airframe.specs.declared.Airframe.{Airframe}
+use Rattle.body.specs.Motion.{airVelocity}
+use Rattle.body.specs.declared.Body.{Body}
+use Rattle.fixed_wing.specs.declared.FixedWingModel.{FixedWingModel}
+use Rattle.flight.specs.declared.Flight.{Flight}
+use Rattle.float.specs.Notation.{_⊗_, nought}
+use Rattle.motors.specs.Motor.{wrenchWith}
+use Rattle.motors.specs.declared.MotorWrench.{MotorWrench}
+use Rattle.motors.specs.declared.Motors.{Motors}
+use Rattle.surfaces.specs.Surface.{deflectionRad}
+use Rattle.surfaces.specs.declared.Surfaces.{Surfaces}
+use Rattle.tailsitter_model.specs.Slipstream.{noWash, washOf}
+use Rattle.tailsitter_model.specs.declared.Wash.{Wash}
+use Rattle.vector.specs.Rotation.{inverseRotateOf, rotateOf}
+use Rattle.vector.specs.Vector.{addOf, vec, zeroVec}
+use Rattle.vector.specs.declared.Quaternion.{Quaternion}
+use Rattle.vector.specs.declared.Vec3.{Vec3}
+use Rattle.wing.specs.declared.Loaded.{Loaded}
+
+-- the airframe's motors and surfaces at the state's running values, and the state's body
+unfoldable pub motorsFor : Airframe → Flight → Motors
+motorsFor a f = record {
+  «max_thrust_n» = a .model .«max_thrust_n»;
+  «thrust_exponent» = a .model .«thrust_exponent»;
+  used = a .used;
+  «torque_per_thrust_m» = a .«torque_per_thrust_m»;
+  running = f .motors;
+}
+
+unfoldable pub surfacesFor : Airframe → Flight → Surfaces
+surfacesFor a f = record { weights = a .weights; running = f .servos }
+
+unfoldable pub bodyOf : Flight → Body
+bodyOf f = record { «position_ned_m» = f .«position_ned_m»; «velocity_ned_mps» = f .«velocity_ned_mps»; attitude = f .attitude; «angular_velocity_radps» = f .«angular_velocity_radps» }
+
+-- the velocity through the air, on body axes
+unfoldable pub airOf : Body → Vec3 → Vec3
+airOf b wind = inverseRotateOf (b .attitude) (airVelocity b wind)
+
+-- an absent wash is all zeros
+unfoldable pub washFor : Airframe → Float → Float → Float → Wash
+washFor a thrust axial density = cond (a .«wash_present») (washOf (a .wash) thrust axial density) noWash
+
+-- thrust along body x, below the center of gravity by the thrust line; the force on world axes
+unfoldable pub loadedOf : FixedWingModel → Quaternion → MotorWrench → Aero → Loaded
+loadedOf m q pull aero = record {
+  loads = record {
+    «force_ned_n» = rotateOf q (addOf (aero .«force_n») (vec (pull .«thrust_n») nought nought));
+    «torque_nm» = addOf (addOf (aero .«torque_nm») (pull .«torque_nm»)) (vec nought (pull .«thrust_n» ⊗ m .«thrust_line_below_cg_m») nought);
+    «damping_nm» = zeroVec;
+  };
+  «alpha_rad» = aero .«alpha_rad»;
+  «beta_rad» = aero .«beta_rad»;
+  «thrust_n» = pull .«thrust_n»;
+}
+
+-- from the running values alone: thrust, wash and aerodynamics in the air that the body meets
+unfoldable pub pullOf : FixedWingModel → Motors → Vec3 → MotorWrench
+pullOf m motors air = wrenchWith motors (m .«thrust_falloff») (air .x)
+
+unfoldable pub aeroOf : Airframe → Motors → Surfaces → Body → Vec3 → Float → Aero
+aeroOf a motors surfaces b air density =
+    wrenchOf (a .model) air (b .«angular_velocity_radps») (deflectionRad surfaces (a .model .«max_deflection_rad»)) (washFor a (pullOf (a .model) motors air .«thrust_n») (air .x) density) density
+
+unfoldable pub loadsOf : Airframe → Motors → Surfaces → Body → Vec3 → Float → Loaded
+loadsOf a motors surfaces b wind density =
+    loadedOf (a .model) (b .attitude) (pullOf (a .model) motors (airOf b wind)) (aeroOf a motors surfaces b (airOf b wind) density)

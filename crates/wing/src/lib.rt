@@ -1,0 +1,284 @@
+// The reference tick: the motors and surfaces through their lags, thrust along body x, the aerodynamics with the surfaces in the
+// props' wash, and the body's step, with the bench's tests around it.
+ghost use mathlib.Core.Path.{_≡_};
+ghost use Rattle.wing.specs.Loads as LoadsOf;
+ghost use Rattle.wing.specs.Tick as TickOf;
+use airframe::Airframe;
+use answers::Answer;
+use body::Body;
+use body::Loads;
+use body::MassProperties;
+use fixed_wing::FixedWingModel;
+use flight::Flight;
+use flight::Tick;
+use motors::Motors;
+use surfaces::Surfaces;
+use tailsitter_model::Wash;
+use vector::Vec3;
+
+// Sea-level air density (ISA).
+pub const AIR_DENSITY_KGPM3: f32 = 1.225;
+
+// The loads on the body, with the flow angles and the thrust they came from.
+pub struct Loaded {
+    pub loads: Loads,
+    pub alpha_rad: f32,
+    pub beta_rad: f32,
+    pub thrust_n: f32,
+}
+
+// What a tick reports; alpha, beta and thrust are 0 where it is refused.
+pub struct Report {
+    pub answer: Answer,
+    pub alpha_rad: f32,
+    pub beta_rad: f32,
+    pub thrust_n: f32,
+}
+
+// A tick's report and the state it hands back.
+pub struct Ticked {
+    pub report: Report,
+    pub flight: Flight,
+}
+
+// One tick from `f`: refused with 6, 7, 8 or 9, in this order, it hands back `f`.
+pub fn tick(a: Airframe, f: Flight, t: Tick) -> Ticked
+    ensures { λ r. ⌜ r ≡ TickOf.tickOf a f t ⌝ }
+{
+    let place = a.refused_place();
+    if place == 0 {
+        return flown(a, f, t);
+    }
+    refused(Answer::NumberOutOfRange(place), f)
+}
+
+// One tick of an airframe that is accepted: the tests 7, 8 and 9.
+pub fn flown(a: Airframe, f: Flight, t: Tick) -> Ticked
+    ensures { λ r. ⌜ r ≡ TickOf.flownOf a f t ⌝ }
+{
+    if f.is_inside() {
+        if float::inside(t.step_s, 0.0009765625, 0.02) {
+            return kept(f, next(a, f, t));
+        }
+        return refused(Answer::StepOutside, f);
+    }
+    refused(Answer::StateOutside, f)
+}
+
+// A refusal: the state as it was given, and zeros.
+fn refused(answer: Answer, f: Flight) -> Ticked
+    ensures { λ r. ⌜ r ≡ TickOf.refusedOf answer f ⌝ }
+{
+    let report = Report {
+        answer,
+        alpha_rad: 0.0,
+        beta_rad: 0.0,
+        thrust_n: 0.0,
+    };
+    Ticked { report, flight: f }
+}
+
+// The next state where it is inside the envelope; else a departure from `f`.
+fn kept(f: Flight, n: Ticked) -> Ticked
+    ensures { λ r. ⌜ r ≡ TickOf.keptOf f n ⌝ }
+{
+    let g = n.flight;
+    if g.is_inside() {
+        return n;
+    }
+    refused(Answer::Departure, f)
+}
+
+// The next state and its report, whatever the tests say.
+pub fn next(a: Airframe, f: Flight, t: Tick) -> Ticked
+    ensures { λ r. ⌜ r ≡ TickOf.nextOf a f t ⌝ }
+{
+    let commands = t.motors;
+    let servo_commands = t.servos;
+    let motors = spun(a, f, commands, t.step_s);
+    let surfaces = moved(a, f, servo_commands, t.step_s);
+    let loaded = loads(
+        a,
+        motors,
+        surfaces,
+        body_of(f),
+        t.wind_ned_mps,
+        AIR_DENSITY_KGPM3,
+    );
+    stepped(
+        a.model,
+        f,
+        motors.running,
+        surfaces.running,
+        loaded,
+        t.step_s,
+    )
+}
+
+// The motors after a step of their lag.
+fn spun(a: Airframe, f: Flight, commands: [f32; 8], step_s: f32) -> Motors
+    ensures { λ r. ⌜ r ≡ TickOf.spunOf a f commands «step_s» ⌝ }
+{
+    let m = a.model;
+    let factor = lag::factor(step_s, m.motor_time_constant_s);
+    motors_of(a, f).spin(commands, factor)
+}
+
+// The surfaces after a step of their lag.
+fn moved(a: Airframe, f: Flight, commands: [f32; 8], step_s: f32) -> Surfaces
+    ensures { λ r. ⌜ r ≡ TickOf.movedOf a f commands «step_s» ⌝ }
+{
+    let m = a.model;
+    let factor = lag::factor(step_s, m.servo_time_constant_s);
+    surfaces_of(a, f).move_to(commands, factor)
+}
+
+// The airframe's motors at the state's running values.
+fn motors_of(a: Airframe, f: Flight) -> Motors
+    ensures { λ r. ⌜ r ≡ LoadsOf.motorsFor a f ⌝ }
+{
+    let m = a.model;
+    let used = a.used;
+    let torque_per_thrust_m = a.torque_per_thrust_m;
+    let running = f.motors;
+    Motors {
+        max_thrust_n: m.max_thrust_n,
+        thrust_exponent: m.thrust_exponent,
+        used,
+        torque_per_thrust_m,
+        running,
+    }
+}
+
+// The airframe's surfaces at the state's running values.
+fn surfaces_of(a: Airframe, f: Flight) -> Surfaces
+    ensures { λ r. ⌜ r ≡ LoadsOf.surfacesFor a f ⌝ }
+{
+    let weights = a.weights;
+    let running = f.servos;
+    Surfaces { weights, running }
+}
+
+// The state's rigid body.
+fn body_of(f: Flight) -> Body
+    ensures { λ r. ⌜ r ≡ LoadsOf.bodyOf f ⌝ }
+{
+    let position_ned_m = f.position_ned_m;
+    let velocity_ned_mps = f.velocity_ned_mps;
+    let attitude = f.attitude;
+    let angular_velocity_radps = f.angular_velocity_radps;
+    Body {
+        position_ned_m,
+        velocity_ned_mps,
+        attitude,
+        angular_velocity_radps,
+    }
+}
+
+// The loads from the running values alone, in air of `density_kgpm3`.
+pub fn loads(
+    a: Airframe,
+    motors: Motors,
+    surfaces: Surfaces,
+    body: Body,
+    wind_ned_mps: Vec3,
+    density_kgpm3: f32,
+) -> Loaded
+    ensures { λ r. ⌜ r ≡ LoadsOf.loadsOf a motors surfaces body «wind_ned_mps» «density_kgpm3» ⌝ }
+{
+    let m = a.model;
+    let attitude = body.attitude;
+    let air_mps = attitude.inverse_transform_vector(body.air_relative_velocity_ned_mps(
+        wind_ned_mps,
+    ));
+    let pull = motors.wrench_with(m.thrust_falloff, air_mps.x);
+    let wash = wash_of(a, pull.thrust_n, air_mps.x, density_kgpm3);
+    let deflection_rad = surfaces.deflection_rad(m.max_deflection_rad);
+    let aero = aero::wrench(
+        m,
+        air_mps,
+        body.angular_velocity_radps,
+        deflection_rad,
+        wash,
+        density_kgpm3,
+    );
+    loaded(m, attitude, pull, aero)
+}
+
+// The prop wash; none where the airframe has none.
+fn wash_of(a: Airframe, thrust_n: f32, axial_mps: f32, density_kgpm3: f32) -> Wash
+    ensures { λ r. ⌜ r ≡ LoadsOf.washFor a «thrust_n» «axial_mps» «density_kgpm3» ⌝ }
+{
+    if a.wash_present {
+        let wash = a.wash;
+        return wash.wash(thrust_n, axial_mps, density_kgpm3);
+    }
+    tailsitter_model::no_wash()
+}
+
+// Aerodynamics and thrust together: the thrust axis is body x, and runs below the center of gravity.
+fn loaded(
+    m: FixedWingModel,
+    attitude: vector::Quaternion,
+    pull: motors::MotorWrench,
+    aero: aero::Aero,
+) -> Loaded
+    ensures { λ r. ⌜ r ≡ LoadsOf.loadedOf m attitude pull aero ⌝ }
+{
+    let force = aero.force_n;
+    let torque = aero.torque_nm;
+    let thrust_line_nm = Vec3::new(0.0, pull.thrust_n * m.thrust_line_below_cg_m, 0.0);
+    let force_ned_n = attitude.transform_vector(force.add(Vec3::new(pull.thrust_n, 0.0, 0.0)));
+    let torque_nm = torque.add(pull.torque_nm).add(thrust_line_nm);
+    let damping_nm = Vec3::zeros();
+    let loads = Loads {
+        force_ned_n,
+        torque_nm,
+        damping_nm,
+    };
+    Loaded {
+        loads,
+        alpha_rad: aero.alpha_rad,
+        beta_rad: aero.beta_rad,
+        thrust_n: pull.thrust_n,
+    }
+}
+
+// The state after the body's step under the loads, and the report.
+fn stepped(
+    m: FixedWingModel,
+    f: Flight,
+    motors: [f32; 8],
+    servos: [f32; 8],
+    loaded: Loaded,
+    step_s: f32,
+) -> Ticked
+    ensures { λ r. ⌜ r ≡ TickOf.steppedOf m f motors servos loaded «step_s» ⌝ }
+{
+    let inertia_kgm2 = m.inertia_kgm2;
+    let mass = MassProperties {
+        mass_kg: m.mass_kg,
+        inertia_kgm2,
+    };
+    let b = body_of(f).step(mass, loaded.loads, step_s);
+    let position_ned_m = b.position_ned_m;
+    let velocity_ned_mps = b.velocity_ned_mps;
+    let attitude = b.attitude;
+    let angular_velocity_radps = b.angular_velocity_radps;
+    let flight = Flight {
+        position_ned_m,
+        velocity_ned_mps,
+        attitude,
+        angular_velocity_radps,
+        motors,
+        servos,
+    };
+    let answer = Answer::Done;
+    let report = Report {
+        answer,
+        alpha_rad: loaded.alpha_rad,
+        beta_rad: loaded.beta_rad,
+        thrust_n: loaded.thrust_n,
+    };
+    Ticked { report, flight }
+}
