@@ -45,7 +45,8 @@ unfoldable pub liftCoefficient : AeroCoefficients → Float → Float → Float 
 liftCoefficient c alpha blend s co = (one ⊖ blend) ⊗ linearLift c alpha ⊕ blend ⊗ flatPlateLift alpha s co
 
 -- ---- drag, B&M eq. 4.11: CDp + (CL0 + CLα α)² / (π e AR), with AR = span² / area
--- departs: AR is computed anew from span and area; past the stall the drag is blended (in `Wrench`) into a flat plate's, CDp + 2 sin²α
+-- AR is no parameter of its own, but computed from span and area
+-- departs: past the stall the drag is blended (in `Wrench`) into a flat plate's, CDp + 2 sin²α
 unfoldable pub dragCoefficient : FixedWingModel → Float → Float
 dragCoefficient m lift = m .aero .«c_drag_0» ⊕ lift ⊗ lift ⊘ (pi ⊗ m .aero .oswald ⊗ aspectRatio (m .«span_m») (m .«wing_area_m2»))
 
@@ -73,7 +74,7 @@ flatPlatePitch c alpha s co = neg (plateNormal alpha s co) ⊗ (quarterChord ⊕
 unfoldable pub onSine : AeroCoefficients → Float → Float
 onSine c s = c .«c_pitch_0» ⊕ c .«c_pitch_alpha» ⊗ s
 
--- from `attached` to the plate's by `share`, where share is above 0
+-- from the attached flow's toward the plate's by the share, unless that is 0 or less
 unfoldable pub pitchCoefficient : AeroCoefficients → Float → Float → Float → Float → Float
 pitchCoefficient c alpha blend s co =
     cond (le (c .«post_stall_pitch_share» ⊗ blend) nought) (onSine c s)

@@ -69,6 +69,7 @@ unfoldable pub stallWash : FixedWingModel → Flow → Float → Wash → Vec3
 stallWash m f area w = vec nought (stallShare f (area ⊘ m .«wing_area_m2») (w .«pressure_pa») ⊗ w .«stall_pitch_moment_pa» ⊗ m .«wing_area_m2» ⊗ m .«chord_m») nought
 
 -- ---- the flow in the plane of symmetry, which lift, drag and the pitch moment take: α = atan2(w, u), and the pressure of the speed √(u² + w²)
+-- departs: the book takes the whole airspeed's pressure for them
 unfoldable pub symmetricSpeed : Vec3 → Float
 symmetricSpeed air = sqrtOf binary32 (air .x ⊗ air .x ⊕ air .z ⊗ air .z)
 

@@ -1,6 +1,6 @@
 -- Tests in a row: what a loop over them finds, what it means that none fails, and that rows of equal tests have one answer. Assumes nothing.
 use Prim.Native.Nat.{_+_, _-_, _<_, _≤_, suc, zero, ℕ}
-use lib.Dec.{T, eqb·suc-zero}
+use lib.Dec.{T, eqb, eqb·suc-zero}
 use lib.Ieee.{Float, le, neg}
 use mathlib.Core.Bool.{Bool, _&&_, cond, false, false≢true, not, true}
 use mathlib.Core.Path.{_∙_, _≡_, ap, ap₂, refl, subst, sym}
@@ -156,3 +156,8 @@ pub after-some : (n f : ℕ) → (f ≡ 0 → ⊥) → after n f ≡ n + f
 unfolding after
 after-some n zero h = absurd (h refl)
 after-some n (suc f) h = rw (eqb·suc-zero f)
+
+-- a number that is not 0
+pub some-eqb : (n : ℕ) → (n ≡ 0 → ⊥) → eqb n 0 ≡ false
+some-eqb zero h = absurd (h refl)
+some-eqb (suc n) h = eqb·suc-zero n

@@ -19,14 +19,11 @@ use Rattle.vector.specs.declared.Quaternion.{Quaternion}
 use Rattle.vector.specs.declared.Vec3.{Vec3}
 use Rattle.state_block.specs.declared.StateRead.{StateRead}
 
--- ---- the table of places: at which byte of its block each part begins
+-- ---- the table of places: at which byte of its block each part begins; a state's position and a tick's step begin it
 
 -- a state, 116 bytes: position, velocity (north, east, down), attitude w i j k, body rates p q r, running motors 8, running servos 8
 abbrev pub stateBytes : ℕ
 stateBytes = 116
-
-abbrev pub positionAt : ℕ
-positionAt = 0
 
 abbrev pub velocityAt : ℕ
 velocityAt = 12
@@ -46,9 +43,6 @@ servosAt = 84
 -- a tick, 80 bytes: step h, wind 3 (north, east, down), motor commands 8, servo commands 8
 abbrev pub tickBytes : ℕ
 tickBytes = 80
-
-abbrev pub stepAt : ℕ
-stepAt = 0
 
 abbrev pub windAt : ℕ
 windAt = 4
@@ -80,7 +74,7 @@ floatsFrom s i = slots (slotFrom s i)
 -- the state whose block begins at i
 unfoldable pub flightFrom : List ℕ → ℕ → Flight
 flightFrom s i = record {
-  «position_ned_m» = vecFrom s (i + positionAt);
+  «position_ned_m» = vecFrom s i;
   «velocity_ned_mps» = vecFrom s (i + velocityAt);
   attitude = attitudeFrom s (i + attitudeAt);
   «angular_velocity_radps» = vecFrom s (i + ratesAt);
@@ -91,7 +85,7 @@ flightFrom s i = record {
 -- the tick whose block begins at i
 unfoldable pub tickFrom : List ℕ → ℕ → Tick
 tickFrom s i = record {
-  «step_s» = floatAt s (i + stepAt);
+  «step_s» = floatAt s i;
   «wind_ned_mps» = vecFrom s (i + windAt);
   motors = floatsFrom s (i + motorCommandsAt);
   servos = floatsFrom s (i + servoCommandsAt);
@@ -132,7 +126,7 @@ putFloats s i xs (suc n) = putFloat (putFloats s i xs n) (i + 4 * n) (at xs n)
 unfoldable pub putBody : List ℕ → ℕ → Flight → List ℕ
 putBody s i f =
     putVec
-    (putAttitude (putVec (putVec s (i + positionAt) (f .«position_ned_m»)) (i + velocityAt) (f .«velocity_ned_mps»)) (i + attitudeAt) (f .attitude))
+    (putAttitude (putVec (putVec s i (f .«position_ned_m»)) (i + velocityAt) (f .«velocity_ned_mps»)) (i + attitudeAt) (f .attitude))
     (i + ratesAt)
     (f .«angular_velocity_radps»)
 

@@ -105,14 +105,9 @@ pub fn next(a: Airframe, f: Flight, t: Tick) -> Ticked
         t.wind_ned_mps,
         AIR_DENSITY_KGPM3,
     );
-    stepped(
-        a.model,
-        f,
-        motors.running,
-        surfaces.running,
-        loaded,
-        t.step_s,
-    )
+    let running = motors.running;
+    let positions = surfaces.running;
+    stepped(a.model, f, running, positions, loaded, t.step_s)
 }
 
 // The motors after a step of their lag.
@@ -191,7 +186,8 @@ pub fn loads(
     let air_mps = attitude.inverse_transform_vector(body.air_relative_velocity_ned_mps(
         wind_ned_mps,
     ));
-    let pull = motors.wrench_with(m.thrust_falloff, air_mps.x);
+    let falloff = m.thrust_falloff;
+    let pull = motors.wrench_with(falloff, air_mps.x);
     let wash = wash_of(a, pull.thrust_n, air_mps.x, density_kgpm3);
     let deflection_rad = surfaces.deflection_rad(m.max_deflection_rad);
     let aero = aero::wrench(
@@ -202,7 +198,7 @@ pub fn loads(
         wash,
         density_kgpm3,
     );
-    loaded(m, attitude, pull, aero)
+    together(m, attitude, pull, aero)
 }
 
 // The prop wash; none where the airframe has none.
@@ -217,7 +213,7 @@ fn wash_of(a: Airframe, thrust_n: f32, axial_mps: f32, density_kgpm3: f32) -> Wa
 }
 
 // Aerodynamics and thrust together: the thrust axis is body x, and runs below the center of gravity.
-fn loaded(
+fn together(
     m: FixedWingModel,
     attitude: vector::Quaternion,
     pull: motors::MotorWrench,

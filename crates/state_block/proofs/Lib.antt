@@ -1,0 +1,4 @@
+-- Laws of the state block and the tick block.
+pub mod Writing
+pub mod RoundTrip
+pub mod Reflection

@@ -1,0 +1,37 @@
+-- `wing::tick` meets its contract. Assumes nothing.
+use Prim.Native.Nat.{ℕ}
+use lib.Dec.{eqb}
+use mathlib.Core.Bool.{false}
+use mathlib.Core.Path.{_∙_, _≡_, ap, sym}
+use borrow.Author.Needs.{needs}
+use Rattle.airframe.specs.Acceptance.{refusedPlace}
+use Rattle.answers.specs.declared.Answer.the-variants.{NumberOutOfRange}
+use Rattle.float.proofs.Ordered.{some-eqb}
+use Rattle.mixers.specs.Slots.{at}
+use Rattle.wing.specs.Tick.{refusedOf, tickOf}
+use Rattle.wing.proofs.tick.Statement.{statement}
+use Rattle.wing.proofs.tick.Tie as tie
+
+refused-place-requires : tie.Need-refused-place-requires
+refused-place-requires c κs = search needs
+
+flown-requires : tie.Need-flown-requires
+flown-requires c κs = search needs
+
+returns : tie.Need-returns
+unfolding tickOf
+returns c = rw (sym (c .before .before .refused-place .ensures) ∙ c .before .if1 .taken) (c .flown .ensures)
+
+refused-requires : tie.Need-refused-requires
+refused-requires c κs = search needs
+
+returns-2 : tie.Need-returns-2
+unfolding tickOf
+returns-2 c =
+    let e = c .before .before .refused-place .ensures in
+    let n : eqb (refusedPlace (c .before .before .before .args .a)) 0 ≡ false = rw e at (some-eqb _ (c .before .if1 .left)) in
+    rw n (c .refused .ensures ∙ ap (λ (p : ℕ). refusedOf (NumberOutOfRange p) (c .before .before .before .args .f)) e)
+
+pub tick-spec : {M : Type 1} → statement M
+tick-spec =
+    tie.close (tie.spec refused-place-requires flown-requires returns refused-requires returns-2)
