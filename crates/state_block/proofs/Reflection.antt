@@ -1,12 +1,21 @@
 -- Flipping the sign bit of the wind's east number in a tick's bytes reflects the tick (01, "Reflection negates, by flipping the sign bit"). Assumes nothing.
 use Prim.Native.Nat.{_%_, _*_, _+_, _/_, _<_, _≤_, suc, zero, ℕ}
-use lib.Dec.{eqb, leb}
+use borrow.Author.Tests.{le-leb, lt-leb, ltb-false, ltb-true}
+use lib.Dec.{eqb, leb, ltb}
 use lib.Ieee.{Float, Format, binary32, hid, low, neg, odd, ofBits, ofFields, ones, prec}
+use lib.ListN.{length, set}
+use lib.Seq.{getD-set-other, getD-set-same}
 use mathlib.Core.Bool.{Bool, cond, false, not, true}
+use mathlib.Core.List.{List}
 use mathlib.Core.Logic.{_⊎_, inl, inr}
 use mathlib.Core.Path.{_∙_, _≡_, ap, refl, sym}
 use native.Mathlib.Omega.{arith}
+use Rattle.flight.specs.Reflection.{reflectTick}
 use Rattle.float.proofs.Patterns.{ofBits-is}
+use Rattle.float.specs.Bytes.{byteAt}
+use Rattle.vector.specs.Reflection.{reflectVec}
+use Rattle.state_block.specs.Layout.{floatAt, floatsFrom, slotFrom, tickFrom, vecFrom}
+use Rattle.state_block.specs.Reflection.{flipSign, reflectTickBytes}
 
 neg-odd : (d : ℕ) (s : Bool) (q k l : ℕ) → odd d (not s) q k l ≡ neg (odd d s q k l)
 unfolding odd neg
@@ -31,8 +40,58 @@ neg-pattern w w' e h =
 
 -- b is the first of four bytes, r what the other three say
 flipped-word : (b r : ℕ) → b < 256 → r < 16777216 → ofBits binary32 ((b + 128) % 256 * 16777216 + r) ≡ neg (ofBits binary32 (b * 16777216 + r))
-flipped-word b r l m = go (lt-or-ge b 128)
+flipped-word b r l m = go (ltb b 128) refl
   where
-    go : (b < 128) ⊎ (128 ≤ b) → ofBits binary32 ((b + 128) % 256 * 16777216 + r) ≡ neg (ofBits binary32 (b * 16777216 + r))
-    go (inl h) = neg-pattern _ _ (le-leb _ _ (omega arith) ∙ sym (ap not (lt-leb 2147483648 (b * 16777216 + r) (omega arith)))) (omega arith)
-    go (inr h) = neg-pattern _ _ (lt-leb _ _ (omega arith) ∙ sym (ap not (le-leb 2147483648 (b * 16777216 + r) (omega arith)))) (omega arith)
+    go : (t : Bool) → ltb b 128 ≡ t → ofBits binary32 ((b + 128) % 256 * 16777216 + r) ≡ neg (ofBits binary32 (b * 16777216 + r))
+    go true e =
+        let h : b < 128 = ltb-true _ _ e in
+        let f : 2147483648 ≤ (b + 128) % 256 * 16777216 + r = omega arith in
+        let g : b * 16777216 + r < 2147483648 = omega arith in
+        neg-pattern _ _ (le-leb _ _ f ∙ sym (ap not (lt-leb _ _ g))) (omega arith)
+    go false e =
+        let h : 128 ≤ b = ltb-false _ _ e in
+        let f : (b + 128) % 256 * 16777216 + r < 2147483648 = omega arith in
+        let g : 2147483648 ≤ b * 16777216 + r = omega arith in
+        neg-pattern _ _ (lt-leb _ _ f ∙ sym (ap not (le-leb _ _ g))) (omega arith)
+
+-- ---- in a list of bytes
+
+flip-same : (s : List ℕ) (p : ℕ) → p < length s → ((k : ℕ) → byteAt s k < 256) → floatAt (flipSign s p) p ≡ neg (floatAt s p)
+unfolding floatAt flipSign
+flip-same s p l h =
+    let b0 = h p in
+    let b1 = h (p + 1) in
+    let b2 = h (p + 2) in
+    let b3 = h (p + 3) in
+    let r = byteAt s (p + 1) * 65536 + byteAt s (p + 2) * 256 + byteAt s (p + 3) in
+    simp (getD-set-same s p ((byteAt s p + 128) % 256) 0 l, getD-set-other s p (p + 1) ((byteAt s p + 128) % 256) 0 (λ e. off 0 e), getD-set-other s p (p + 2) ((byteAt s p + 128) % 256) 0 (λ e. off 1 e), getD-set-other s p (p + 3) ((byteAt s p + 128) % 256) 0 (λ e. off 2 e))
+    (ap (ofBits binary32) (omega arith) ∙ flipped-word (byteAt s p) r b0 (omega arith) ∙ ap (λ (w : ℕ). neg (ofBits binary32 w)) (omega arith))
+  where
+    off : (m : ℕ) → p + suc m ≡ p → ⊥
+    off m e = omega arith
+
+flip-other : (s : List ℕ) (p j : ℕ) → (j + 4 ≤ p) ⊎ (p < j) → floatAt (flipSign s p) j ≡ floatAt s j
+unfolding floatAt flipSign
+flip-other s p j h = simp (at-other j (omega arith) (omega arith), at-other (j + 1) (omega arith) (omega arith), at-other (j + 2) (omega arith) (omega arith), at-other (j + 3) (omega arith) (omega arith))
+  where
+    at-other : (q : ℕ) → j ≤ q → q < j + 4 → byteAt (set s p ((byteAt s p + 128) % 256)) q ≡ byteAt s q
+    at-other q a b = getD-set-other s p q _ 0 (λ e. off h e)
+      where
+        off : (j + 4 ≤ p) ⊎ (p < j) → q ≡ p → ⊥
+        off (inl g) e = omega arith
+        off (inr g) e = omega arith
+
+slots-after : (s : List ℕ) (p i : ℕ) → p < i → floatsFrom (flipSign s p) i ≡ floatsFrom s i
+unfolding floatsFrom slotFrom
+slots-after s p i l = simp (at-slot 0, at-slot 4, at-slot 8, at-slot 12, at-slot 16, at-slot 20, at-slot 24, at-slot 28)
+  where
+    at-slot : (k : ℕ) → floatAt (flipSign s p) (i + k) ≡ floatAt s (i + k)
+    at-slot k = flip-other s p (i + k) (inr (omega arith))
+
+-- the tick of the reflected bytes is the reflected tick; the hypothesis on bytes is that each is below 256
+pub reflect-tick-bytes : (s : List ℕ) (i : ℕ) → i + 80 ≤ length s → ((k : ℕ) → byteAt s k < 256) → tickFrom (reflectTickBytes s i) i ≡ reflectTick (tickFrom s i)
+unfolding tickFrom reflectTickBytes reflectTick reflectVec vecFrom
+reflect-tick-bytes s i l h =
+    let p = i + 4 + 4 in
+    simp
+    (flip-other s p i (inl (omega arith)), flip-other s p (i + 4) (inl (omega arith)), flip-same s p (omega arith) h, flip-other s p (i + 4 + 8) (inr (omega arith)), slots-after s p (i + 16) (omega arith), slots-after s p (i + 48) (omega arith))

@@ -4,8 +4,8 @@ use borrow.Author.Tests.{eq-eqb}
 use lib.Dec.{T}
 use lib.Ieee.{Float, below, binary32, fits, nan, ofBits, toBits}
 use lib.Ieee.Bits.{ofBits-fits, ofBits-toBits, toBits-lt}
-use lib.ListN.{length}
-use lib.Seq.{ext-getD, getD-set-other, getD-set-same, lt-length-set}
+use lib.ListN.{length, length-set, set}
+use lib.Seq.{ext-getD, getD-set-other, getD-set-same}
 use mathlib.Core.List.{List, []}
 use mathlib.Core.Logic.{_⊎_, inl, inr}
 use mathlib.Core.Path.{_∙_, _≡_, ap, refl, subst, sym}
@@ -23,13 +23,23 @@ use Rattle.state_block.specs.Layout.{acceptedState, attitudeFrom, flight
 
 -- ---- four bytes
 
+-- s with the first byte put, the first two, the first three
+abbrev put1 : List ℕ → ℕ → ℕ → List ℕ
+put1 s i n = set s i (n / 16777216 % 256)
+
+abbrev put2 : List ℕ → ℕ → ℕ → List ℕ
+put2 s i n = set (put1 s i n) (i + 1) (n / 65536 % 256)
+
+abbrev put3 : List ℕ → ℕ → ℕ → List ℕ
+put3 s i n = set (put2 s i n) (i + 2) (n / 256 % 256)
+
 -- a byte before the four that are put
 byte-before : (s : List ℕ) (i n k : ℕ) → k < i → byteAt (put s i n) k ≡ byteAt s k
 byte-before s i n k l =
-    getD-set-other _ (i + 3) k _ 0 (λ e. off 3 e)
-    ∙ getD-set-other _ (i + 2) k _ 0 (λ e. off 2 e)
-    ∙ getD-set-other _ (i + 1) k _ 0 (λ e. off 1 e)
-    ∙ getD-set-other _ i k _ 0 (λ e. off 0 (e ∙ sym (add-zero i)))
+    getD-set-other (put3 s i n) (i + 3) k (n % 256) 0 (λ e. off 3 e)
+    ∙ getD-set-other (put2 s i n) (i + 2) k (n / 256 % 256) 0 (λ e. off 2 e)
+    ∙ getD-set-other (put1 s i n) (i + 1) k (n / 65536 % 256) 0 (λ e. off 1 e)
+    ∙ getD-set-other s i k (n / 16777216 % 256) 0 (λ e. off 0 (e ∙ sym (add-zero i)))
   where
     off : (m : ℕ) → k ≡ i + m → ⊥
     off m e = omega arith
@@ -38,44 +48,51 @@ byte-before s i n k l =
 pub word-put-other : (s : List ℕ) (i n j : ℕ) → j + 4 ≤ i → word (put s i n) j ≡ word s j
 word-put-other s i n j l = simp (byte-before s i n j (omega arith), byte-before s i n (j + 1) (omega arith), byte-before s i n (j + 2) (omega arith), byte-before s i n (j + 3) (omega arith))
 
+-- a number below 2^32 is what its four bytes say
+four-bytes : (n : ℕ) → n < 4294967296 → n / 16777216 % 256 * 16777216 + n / 65536 % 256 * 65536 + n / 256 % 256 * 256 + n % 256 ≡ n
+four-bytes n h =
+    let a : n / 256 / 256 ≡ n / 65536 = omega arith in
+    let b : n / 65536 / 256 ≡ n / 16777216 = omega arith in
+    let e : n / 16777216 % 256 ≡ n / 16777216 = omega arith in
+    let x : n / 65536 / 256 * 256 + n / 65536 % 256 ≡ n / 65536 = omega arith in
+    let y : n / 256 / 256 * 256 + n / 256 % 256 ≡ n / 256 = omega arith in
+    let z : n / 256 * 256 + n % 256 ≡ n = omega arith in
+    omega arith
+
 module _ (s : List ℕ) (i n : ℕ) (l : i + 4 ≤ length s) where
   first : byteAt (put s i n) i ≡ n / 16777216 % 256
   first =
-      getD-set-other _ (i + 3) i _ 0 (λ e. off 2 e)
-      ∙ getD-set-other _ (i + 2) i _ 0 (λ e. off 1 e)
-      ∙ getD-set-other _ (i + 1) i _ 0 (λ e. off 0 e)
-      ∙ getD-set-same s i _ 0 (omega arith)
+      getD-set-other (put3 s i n) (i + 3) i (n % 256) 0 (λ e. off 2 e)
+      ∙ getD-set-other (put2 s i n) (i + 2) i (n / 256 % 256) 0 (λ e. off 1 e)
+      ∙ getD-set-other (put1 s i n) (i + 1) i (n / 65536 % 256) 0 (λ e. off 0 e)
+      ∙ getD-set-same s i (n / 16777216 % 256) 0 (omega arith)
     where
       off : (m : ℕ) → i ≡ i + suc m → ⊥
       off m e = omega arith
 
   second : byteAt (put s i n) (i + 1) ≡ n / 65536 % 256
   second =
-      let h : i + 1 < length s = omega arith in
-      getD-set-other _ (i + 3) (i + 1) _ 0 (λ e. off 1 e)
-      ∙ getD-set-other _ (i + 2) (i + 1) _ 0 (λ e. off 0 e)
-      ∙ getD-set-same _ (i + 1) _ 0 (lt-length-set _ _ _ h)
+      getD-set-other (put3 s i n) (i + 3) (i + 1) (n % 256) 0 (λ e. off 1 e)
+      ∙ getD-set-other (put2 s i n) (i + 2) (i + 1) (n / 256 % 256) 0 (λ e. off 0 e)
+      ∙ getD-set-same (put1 s i n) (i + 1) (n / 65536 % 256) 0 (simp length-set (omega arith))
     where
       off : (m : ℕ) → i + 1 ≡ i + suc (suc m) → ⊥
       off m e = omega arith
 
   third : byteAt (put s i n) (i + 2) ≡ n / 256 % 256
   third =
-      let h : i + 2 < length s = omega arith in
-      getD-set-other _ (i + 3) (i + 2) _ 0 (λ e. off e)
-      ∙ getD-set-same _ (i + 2) _ 0 (lt-length-set _ _ _ (lt-length-set _ _ _ h))
+      getD-set-other (put3 s i n) (i + 3) (i + 2) (n % 256) 0 (λ e. off e)
+      ∙ getD-set-same (put2 s i n) (i + 2) (n / 256 % 256) 0 (simp length-set (omega arith))
     where
       off : i + 2 ≡ i + 3 → ⊥
       off e = omega arith
 
   fourth : byteAt (put s i n) (i + 3) ≡ n % 256
-  fourth =
-      let h : i + 3 < length s = omega arith in
-      getD-set-same _ (i + 3) _ 0 (lt-length-set _ _ _ (lt-length-set _ _ _ (lt-length-set _ _ _ h)))
+  fourth = getD-set-same (put3 s i n) (i + 3) (n % 256) 0 (simp length-set (omega arith))
 
   -- what is put is what is read there
   pub word-put-same : n < 4294967296 → word (put s i n) i ≡ n
-  word-put-same h = simp (first, second, third, fourth) (omega arith)
+  word-put-same h = simp (first, second, third, fourth) (four-bytes n h)
 
 -- ---- a number
 

@@ -1,7 +1,8 @@
 // The state block and the tick block (01, "Blocks"): how a flight state and a tick stand in bytes.
 ghost use mathlib.Core.Path.{_≡_};
-ghost use Prim.Native.Nat.{_+_, _≤_};
+ghost use Prim.Native.Nat.{_+_, _≤_, _%_};
 ghost use Rattle.state_block.specs.Layout as Layout;
+ghost use Rattle.state_block.specs.Reflection as Reflection;
 use answers::Answer;
 use flight::Flight;
 use flight::Tick;
@@ -168,4 +169,20 @@ pub fn write_state(s: &mut [u8], f: Flight) -> Answer
     }
     write_flight(s, 0, f);
     Answer::Done
+}
+
+// A byte with its top bit flipped.
+fn top_flipped(b: u8) -> u8
+    ensures { λ r. ⌜ r ≡ (b + 128) % 256 ⌝ }
+{
+    if b < 128 { b + 128 } else { b - 128 }
+}
+
+// Reflects the tick whose 80 bytes stand at `at`: flips the sign bit of the wind's east number, which stands 4 bytes after the wind.
+pub fn reflect_tick(s: &mut [u8], at: usize)
+    requires { do ⌜ at + 80 ≤ (← ⟦s.len()⟧) ⌝ }
+    ensures { λ _. ⌜ now (s .exit) ≡ Reflection.reflectTickBytes (now (s .entry)) at ⌝ }
+{
+    let east = at + 4 + 4;
+    s[east] = top_flipped(s[east]);
 }

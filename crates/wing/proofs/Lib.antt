@@ -1,0 +1,3 @@
+-- Laws of the tick.
+pub mod Range
+pub mod Mirror

@@ -1,0 +1,172 @@
+-- The tick's mirror law, relationally: for airframes, states and ticks that are each other's reflections number for number, the answers are equal, alpha and thrust the same, beta
+-- the opposite, and the next states each other's reflections. Assumes nothing.
+use Prim.Native.Nat.{ℕ}
+use lib.Dec.{eqb}
+use lib.Ieee.{Float}
+use lib.IntN.{pos}
+use mathlib.Core.Bool.{false, true}
+use mathlib.Core.List.{List}
+use mathlib.Core.Path.{_∙_, _≡_, ap, ap₂, refl, subst, sym}
+use Rattle.aero.proofs.Mirror.{wrench-mirror}
+use Rattle.aero.specs.Coefficients.{exponent}
+use Rattle.aero.specs.Reflection.{AeroRel}
+use Rattle.aero.specs.declared.Aero.{Aero}
+use Rattle.airframe.proofs.Mirror.{refused-place-is}
+use Rattle.airframe.specs.Acceptance.{refusedPlace}
+use Rattle.airframe.specs.Reflection.{AirframeRel}
+use Rattle.airframe.specs.declared.Airframe.{Airframe}
+use Rattle.answers.specs.declared.Answer.{Answer}
+use Rattle.answers.specs.declared.Answer.the-variants.{Departure, NumberOutOfRange, StateOutside, StepOutside}
+use Rattle.body.proofs.Mirror.{air-velocity-mirror, step-mirror}
+use Rattle.body.specs.Reflection.{BodyRel}
+use Rattle.body.specs.declared.Body.{Body}
+use Rattle.fixed_wing.specs.declared.FixedWingModel.{FixedWingModel}
+use Rattle.flight.proofs.Mirror.{outside-is}
+use Rattle.flight.specs.Envelope.{isInside}
+use Rattle.flight.specs.Reflection.{FlightRel, TickRel}
+use Rattle.flight.specs.declared.Flight.{Flight}
+use Rattle.flight.specs.declared.Tick.{Tick}
+use Rattle.float.proofs.Mirror.{by-test, r-is, r-same, r-zero}
+use Rattle.float.specs.Interval.{inside}
+use Rattle.float.specs.Notation.{_⊗_, nought}
+use Rattle.float.specs.Same.{Rel}
+use Rattle.lag.specs.Lag.{factorOf, stepLeast, stepMost}
+use Rattle.motors.proofs.Mirror.{MotorsRel, spin-mirror, thrust-is, torque-mirror}
+use Rattle.motors.specs.Motor.{spinOf}
+use Rattle.motors.specs.declared.MotorWrench.{MotorWrench}
+use Rattle.motors.specs.declared.Motors.{Motors}
+use Rattle.surfaces.proofs.Mirror.{SurfacesRel, deflection-mirror, move-mirror}
+use Rattle.surfaces.specs.Surface.{moveTo}
+use Rattle.surfaces.specs.declared.Surfaces.{Surfaces}
+use Rattle.tailsitter_model.proofs.Mirror.{wash-is}
+use Rattle.vector.proofs.Mirror.{add-mirror, inverse-rotate-mirror, rotate-mirror, vec-mirror, zero-mirror}
+use Rattle.vector.specs.Reflection.{QuatRel, VecRel}
+use Rattle.vector.specs.declared.Quaternion.{Quaternion}
+use Rattle.vector.specs.declared.Vec3.{Vec3}
+use Rattle.wing.specs.Loads.{aeroOf, airOf, bodyOf, loadedOf, loadsOf, motorsFor, pullOf, surfacesFor, washFor}
+use Rattle.wing.specs.Reflection.{LoadedRel, TickedRel}
+use Rattle.wing.specs.Tick.{airDensity, flightOf, flownOf, keptOf, massOf, movedOf, nextFrom, nextOf, refusedOf, spunOf, steppedOf, tickOf}
+use Rattle.wing.specs.declared.Loaded.{Loaded}
+use Rattle.wing.specs.declared.Ticked.{Ticked}
+
+motors-mirror : {a a' : Airframe} {f f' : Flight} → AirframeRel a a' → FlightRel f f' → MotorsRel (motorsFor a f) (motorsFor a' f')
+unfolding motorsFor
+motors-mirror h k = record { most = rw (h .model); exponent = rw (h .model); used = h .used; torque = h .torque; running = k .motors }
+
+surfaces-mirror : {a a' : Airframe} {f f' : Flight} → AirframeRel a a' → FlightRel f f' → SurfacesRel (surfacesFor a f) (surfacesFor a' f')
+unfolding surfacesFor
+surfaces-mirror h k = record { weight = h .weight; running = k .servos }
+
+body-mirror : {f f' : Flight} → FlightRel f f' → BodyRel (bodyOf f) (bodyOf f')
+unfolding bodyOf
+body-mirror h = record { position = h .position; velocity = h .velocity; attitude = h .attitude; rates = h .rates }
+
+air-mirror : {b b' : Body} {wind wind' : Vec3} → BodyRel b b' → VecRel false wind wind' → VecRel false (airOf b wind) (airOf b' wind')
+unfolding airOf
+air-mirror h k = inverse-rotate-mirror (h .attitude) (air-velocity-mirror h k)
+
+-- ---- the loads, for one airframe up to its torques and weights
+wash-for-is : {a a' : Airframe} {u u' : Float} (thrust density : Float) → AirframeRel a a' → Rel false u u' → washFor a' thrust u' density ≡ washFor a thrust u density
+unfolding washFor
+wash-for-is {a} thrust density h r = rw (h .wash-present, h .wash, wash-is (a .wash) thrust density r)
+
+together-mirror : {q q' : Quaternion} {p p' : MotorWrench} {aero aero' : Aero} {m m' : FixedWingModel} → m' ≡ m → QuatRel q q' → p' .«thrust_n» ≡ p .«thrust_n» → VecRel true (p .«torque_nm») (p' .«torque_nm»)
+    → AeroRel aero aero' → LoadedRel (loadedOf m q p aero) (loadedOf m' q' p' aero')
+unfolding loadedOf
+together-mirror i q e t h = record {
+  loads = record {
+    force = rotate-mirror q (add-mirror (h .force) (vec-mirror (r-is e) (r-zero true false false (pos 0)) (r-zero false false false (pos 0))));
+    torque = add-mirror (add-mirror (h .torque) t) (vec-mirror (r-zero true false false (pos 0)) (r-is (ap₂ (λ (z : Float) (n : FixedWingModel). z ⊗ n .«thrust_line_below_cg_m») e i)) (r-zero true false false (pos 0)));
+    damping = zero-mirror true;
+  };
+  alpha = h .alpha;
+  beta = h .beta;
+  thrust = r-is e;
+}
+
+pull-is : {a a' : Airframe} {m m' : Motors} {u u' : Vec3} → AirframeRel a a' → MotorsRel m m' → VecRel false u u' → pullOf (a' .model) m' u' .«thrust_n» ≡ pullOf (a .model) m u .«thrust_n»
+unfolding pullOf
+pull-is {a} h k u = rw (h .model) (thrust-is (a .model .«thrust_falloff») k (u .x))
+
+pull-mirror : {a a' : Airframe} {m m' : Motors} {u u' : Vec3} → AirframeRel a a' → MotorsRel m m' → VecRel false u u' → VecRel true (pullOf (a .model) m u .«torque_nm») (pullOf (a' .model) m' u' .«torque_nm»)
+unfolding pullOf
+pull-mirror {a} h k u = rw (h .model) (torque-mirror (a .model .«thrust_falloff») k (u .x))
+
+aero-mirror : {a a' : Airframe} {m m' : Motors} {s s' : Surfaces} {b b' : Body} {u u' : Vec3} (density : Float) → AirframeRel a a' → MotorsRel m m' → SurfacesRel s s' → BodyRel b b' → VecRel false u u'
+    → AeroRel (aeroOf a m s b u density) (aeroOf a' m' s' b' u' density)
+unfolding aeroOf
+aero-mirror {a} {a'} {m} {m'} {s} {s'} {b} {b'} {u} {u'} density h k l g air =
+    let thrust = pullOf (a .model) m u .«thrust_n» in
+    let e : washFor a' (pullOf (a' .model) m' u' .«thrust_n») (u' .x) density ≡ washFor a thrust (u .x) density = ap (λ (z : Float). washFor a' z (u' .x) density) (pull-is h k air) ∙ wash-for-is thrust density h (air .x) in
+    rw (e, h .model) (wrench-mirror (a .model) (washFor a thrust (u .x) density) density air (g .rates) (deflection-mirror (a .model .«max_deflection_rad») l))
+
+pub loads-mirror : {a a' : Airframe} {m m' : Motors} {s s' : Surfaces} {b b' : Body} {wind wind' : Vec3} (density : Float) → AirframeRel a a' → MotorsRel m m' → SurfacesRel s s' → BodyRel b b'
+    → VecRel false wind wind' → LoadedRel (loadsOf a m s b wind density) (loadsOf a' m' s' b' wind' density)
+unfolding loadsOf
+loads-mirror density h k l g w =
+    let air = air-mirror g w in
+    together-mirror (h .model) (g .attitude) (pull-is h k air) (pull-mirror h k air) (aero-mirror density h k l g air)
+
+-- ---- the step
+flight-mirror : {b b' : Body} (motors servos : List Float) → BodyRel b b' → FlightRel (flightOf b motors servos) (flightOf b' motors servos)
+unfolding flightOf
+flight-mirror motors servos h = record { position = h .position; velocity = h .velocity; attitude = h .attitude; rates = h .rates; motors = refl; servos = refl }
+
+stepped-mirror : {f f' : Flight} {l l' : Loaded} (m : FixedWingModel) (motors servos : List Float) (h : Float) → FlightRel f f' → LoadedRel l l' → TickedRel (steppedOf m f motors servos l h) (steppedOf m f' motors servos l' h)
+unfolding steppedOf
+stepped-mirror m motors servos h k l = record {
+  report = record { answer = refl; alpha = l .alpha; beta = l .beta; thrust = l .thrust };
+  flight = flight-mirror motors servos (step-mirror (massOf m) h (body-mirror k) (l .loads));
+}
+
+stepped-same : {f f' : Flight} {l l' : Loaded} (m m' : FixedWingModel) (motors motors' servos servos' : List Float) (h : Float) → m' ≡ m → motors' ≡ motors → servos' ≡ servos → FlightRel f f' → LoadedRel l l'
+    → TickedRel (steppedOf m f motors servos l h) (steppedOf m' f' motors' servos' l' h)
+stepped-same m m' motors motors' servos servos' h i e s k l = rw (i, e, s) (stepped-mirror m motors servos h k l)
+
+next-from-mirror : {a a' : Airframe} {f f' : Flight} {m m' : Motors} {s s' : Surfaces} {wind wind' : Vec3} (h : Float) → AirframeRel a a' → FlightRel f f' → MotorsRel m m' → SurfacesRel s s' → VecRel false wind wind'
+    → TickedRel (nextFrom a f m s wind h) (nextFrom a' f' m' s' wind' h)
+unfolding nextFrom
+next-from-mirror {a} {a'} {f} {f'} {m} {m'} {s} {s'} step h k g l w =
+    stepped-same (a .model) (a' .model) (m .running) (m' .running) (s .running) (s' .running) step (h .model) (g .running) (l .running) k (loads-mirror airDensity h g l (body-mirror k) w)
+
+spun-mirror : {a a' : Airframe} {f f' : Flight} (commands : List Float) (step : Float) → AirframeRel a a' → FlightRel f f' → MotorsRel (spunOf a f commands step) (spunOf a' f' commands step)
+unfolding spunOf
+spun-mirror {a} {a'} {f} {f'} commands step h k =
+    subst (λ (m : FixedWingModel). MotorsRel (spinOf (motorsFor a f) commands (factorOf step (a .model .«motor_time_constant_s»))) (spinOf (motorsFor a' f') commands (factorOf step (m .«motor_time_constant_s»)))) (sym (h .model))
+    (spin-mirror commands (factorOf step (a .model .«motor_time_constant_s»)) (motors-mirror h k))
+
+moved-mirror : {a a' : Airframe} {f f' : Flight} (commands : List Float) (step : Float) → AirframeRel a a' → FlightRel f f' → SurfacesRel (movedOf a f commands step) (movedOf a' f' commands step)
+unfolding movedOf
+moved-mirror {a} {a'} {f} {f'} commands step h k =
+    subst (λ (m : FixedWingModel). SurfacesRel (moveTo (surfacesFor a f) commands (factorOf step (a .model .«servo_time_constant_s»))) (moveTo (surfacesFor a' f') commands (factorOf step (m .«servo_time_constant_s»)))) (sym (h .model))
+    (move-mirror commands (factorOf step (a .model .«servo_time_constant_s»)) (surfaces-mirror h k))
+
+pub next-mirror : {a a' : Airframe} {f f' : Flight} {t t' : Tick} → AirframeRel a a' → FlightRel f f' → TickRel t t' → TickedRel (nextOf a f t) (nextOf a' f' t')
+unfolding nextOf
+next-mirror {t} h k w =
+    rw (w .step, w .motors, w .servos) (next-from-mirror (t .«step_s») h k (spun-mirror (t .motors) (t .«step_s») h k) (moved-mirror (t .servos) (t .«step_s») h k) (w .wind))
+
+-- ---- the tests
+refused-mirror : {f f' : Flight} (x : Answer) → FlightRel f f' → TickedRel (refusedOf x f) (refusedOf x f')
+unfolding refusedOf
+refused-mirror x h = record { report = record { answer = refl; alpha = r-same nought; beta = r-zero true false false (pos 0); thrust = r-same nought }; flight = h }
+
+inside-is : {f f' : Flight} → FlightRel f f' → isInside f' ≡ isInside f
+unfolding isInside
+inside-is h = ap (λ (n : ℕ). eqb n 0) (outside-is h)
+
+kept-mirror : {f f' : Flight} {n n' : Ticked} → FlightRel f f' → TickedRel n n' → TickedRel (keptOf f n) (keptOf f' n')
+unfolding keptOf
+kept-mirror {f} {f'} {n} {n'} h k = by-test TickedRel (isInside (n .flight)) (isInside (n' .flight)) (inside-is (k .flight)) (λ t. k) (λ t. refused-mirror Departure h)
+
+pub flown-mirror : {a a' : Airframe} {f f' : Flight} {t t' : Tick} → AirframeRel a a' → FlightRel f f' → TickRel t t' → TickedRel (flownOf a f t) (flownOf a' f' t')
+unfolding flownOf
+flown-mirror {a} {a'} {f} {f'} {t} {t'} h k w =
+    by-test TickedRel (isInside f) (isInside f') (inside-is k)
+    (λ u. by-test TickedRel (inside stepLeast stepMost (t .«step_s»)) (inside stepLeast stepMost (t' .«step_s»)) (ap (inside stepLeast stepMost) (w .step)) (λ v. kept-mirror k (next-mirror h k w)) (λ v. refused-mirror StepOutside k))
+    (λ u. refused-mirror StateOutside k)
+
+pub tick-mirror : {a a' : Airframe} {f f' : Flight} {t t' : Tick} → AirframeRel a a' → FlightRel f f' → TickRel t t' → TickedRel (tickOf a f t) (tickOf a' f' t')
+unfolding tickOf
+tick-mirror {a} {a'} h k w =
+    rw (refused-place-is h) (by-test TickedRel (eqb (refusedPlace a) 0) (eqb (refusedPlace a) 0) refl (λ u. flown-mirror h k w) (λ u. refused-mirror (NumberOutOfRange (refusedPlace a)) k))
