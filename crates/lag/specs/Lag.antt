@@ -1,6 +1,6 @@
 -- First-order lag (01, module 1). Definitions only.
 use lib.Ieee.{Float, fin, low, ne, neg}
-use lib.IntN.{negsuc, pos}
+use lib.IntN.{negsuc}
 use mathlib.Core.Bool.{cond, false}
 use Rattle.float.specs.Notation.{_⊕_, _⊖_, _⊗_, _⊘_, clamp, one, rounded}
 use Rattle.libm.specs.Exp.{expOf}
@@ -31,4 +31,4 @@ abbrev pub constantLeast : Float
 constantLeast = rounded 1 1000
 
 abbrev pub constantMost : Float
-constantMost = fin false 5 (pos 1)
+constantMost = rounded 10 1

@@ -164,7 +164,8 @@ pub fn write_state(s: &mut [u8], f: Flight) -> Answer
     ensures { λ r. ⌜ now (s .exit) ≡ Layout.writtenState (now (s .entry)) f ⌝ }
     ensures { λ r. ⌜ r ≡ Layout.writeAnswer (now (s .entry)) ⌝ }
 {
-    if s.len() != 116 {
+    let lent = s.len();
+    if lent != 116 {
         return Answer::WrongLength;
     }
     write_flight(s, 0, f);

@@ -1,17 +1,86 @@
--- Where a tick leaves the running values, by the lag's rounding bound and not by test 9: of an accepted airframe, from a state inside the envelope, each used motor's stays in 0..1,
--- each surface's in -1..1, and an unused motor runs as before. Assumes nothing.
+-- Where a tick leaves the running values, by the lag's rounding bound and not by test 9: of an accepted airframe and an accepted step, from motors in 0..1 and surfaces in -1..1, the next
+-- state's lie there again, and an unused motor runs as before. So test 9 never fires on a running value. Assumes nothing.
 use Prim.Native.Nat.{_<_, ℕ}
-use lib.Dec.{T}
-use lib.Ieee.{binary32, fits}
-use mathlib.Core.Bool.{Bool}
-use mathlib.Core.List.{List}
+use lib.Dec.{T, eqb}
+use lib.Ieee.{Float, binary32, fits, nan}
+use mathlib.Core.Bool.{Bool, cond, false, true}
+use mathlib.Core.List.{[]}
+use mathlib.Core.Path.{_∙_, _≡_, refl, subst, sym}
+use Rattle.airframe.proofs.Range.{motor-constant-in, servo-constant-in}
+use Rattle.airframe.specs.Acceptance.{refusedPlace}
+use Rattle.airframe.specs.declared.Airframe.{Airframe}
+use Rattle.answers.specs.declared.Answer.{Answer}
+use Rattle.answers.specs.declared.Answer.the-variants.{Departure, NumberOutOfRange, StateOutside, StepOutside}
+use Rattle.flight.proofs.Range.{motor-within, servo-within}
+use Rattle.flight.specs.Envelope.{isInside, outsideOf}
 use Rattle.flight.specs.declared.Flight.{Flight}
-use Rattle.float.specs.Interval.{Within}
+use Rattle.flight.specs.declared.Tick.{Tick}
+use Rattle.float.proofs.Ordered.{inside-within}
+use Rattle.float.specs.Interval.{Within, inside}
 use Rattle.float.specs.Notation.{minusOne, nought, one}
+use Rattle.lag.proofs.Range.{factor-in}
+use Rattle.lag.specs.Lag.{factorOf, stepLeast, stepMost}
+use Rattle.mixers.proofs.Slots.{slots-at}
 use Rattle.mixers.specs.Slots.{at}
+use Rattle.motors.proofs.Range.{spin-fits, spin-in, spin-still}
+use Rattle.motors.specs.Motor.{spinAt, spinOf}
+use Rattle.surfaces.proofs.Range.{move-in}
+use Rattle.surfaces.specs.Surface.{moveAt, moveTo}
+use Rattle.wing.specs.Loads.{motorsFor, surfacesFor}
+use Rattle.wing.specs.Running.{Held, Running, Still}
+use Rattle.wing.specs.Tick.{flightOf, flownOf, keptOf, movedOf, nextFrom, nextOf, refusedOf, spunOf, steppedOf, tickOf}
+use Rattle.wing.specs.declared.Ticked.{Ticked}
 
--- the running values of a state: those of motors that a mark says are used, and of all surfaces, lie in their ranges; a motor's is a value of the format
-pub record Running (used : List Bool) (f : Flight) : Type 0 where
-  pub motor : (k : ℕ) → k < 8 → Within nought one (at (f .motors) k)
-  pub motor-fits : (k : ℕ) → k < 8 → T (fits binary32 (at (f .motors) k))
-  pub servo : (k : ℕ) → k < 8 → Within minusOne one (at (f .servos) k)
+-- ---- a slot of the next state
+next-motor : (a : Airframe) (f : Flight) (t : Tick) (k : ℕ) → k < 8 → at (nextOf a f t .flight .motors) k ≡ spinAt (motorsFor a f) (t .motors) (factorOf (t .«step_s») (a .model .«motor_time_constant_s»)) k
+unfolding nextOf nextFrom steppedOf flightOf spunOf spinOf
+next-motor a f t k l = slots-at nan (spinAt (motorsFor a f) (t .motors) (factorOf (t .«step_s») (a .model .«motor_time_constant_s»))) [] k l
+
+next-servo : (a : Airframe) (f : Flight) (t : Tick) (k : ℕ) → k < 8 → at (nextOf a f t .flight .servos) k ≡ moveAt (surfacesFor a f) (t .servos) (factorOf (t .«step_s») (a .model .«servo_time_constant_s»)) k
+unfolding nextOf nextFrom steppedOf flightOf movedOf moveTo
+next-servo a f t k l = slots-at nan (moveAt (surfacesFor a f) (t .servos) (factorOf (t .«step_s») (a .model .«servo_time_constant_s»))) [] k l
+
+module _ (a : Airframe) (f : Flight) (t : Tick) where
+  pub next-running : refusedPlace a ≡ 0 → inside stepLeast stepMost (t .«step_s») ≡ true → Held f → Running f → Running (nextOf a f t .flight)
+  unfolding motorsFor surfacesFor
+  next-running e s g r = record {
+    motor = λ k l. subst (λ (x : Float). Within nought one x) (sym (next-motor a f t k l)) (spin-in (motorsFor a f) (t .motors) _ k (g .motor k l) (r .motor k l) (factor-in _ _ (inside-within s) (motor-constant-in a e)));
+    servo = λ k l. subst (λ (x : Float). Within minusOne one x) (sym (next-servo a f t k l)) (move-in (surfacesFor a f) (t .servos) _ k (r .servo k l) (factor-in _ _ (inside-within s) (servo-constant-in a e)));
+  }
+
+  pub next-still : Still (a .used) f (nextOf a f t .flight)
+  unfolding motorsFor
+  next-still = record { motor = λ k l u. next-motor a f t k l ∙ spin-still (motorsFor a f) (t .motors) _ k u }
+
+  pub next-held : Held f → Held (nextOf a f t .flight)
+  unfolding motorsFor
+  next-held g = record { motor = λ k l. subst (λ (x : Float). T (fits binary32 x)) (sym (next-motor a f t k l)) (spin-fits (motorsFor a f) (t .motors) _ k (g .motor k l)) }
+
+-- ---- a tick, refused or not
+pub record Keeps (a : Airframe) (f : Flight) (r : Ticked) : Type 0 where
+  pub running : Running (r .flight)
+  pub still : Still (a .used) f (r .flight)
+  pub held : Held (r .flight)
+
+keeps-refused : (a : Airframe) (f : Flight) (x : Answer) → Held f → Running f → Keeps a f (refusedOf x f)
+unfolding refusedOf
+keeps-refused a f x g r = record { running = r; still = record { motor = λ k l u. refl }; held = g }
+
+by-cases : {X : Type 0} (P : X → Type 0) {x y : X} (b : Bool) → (b ≡ true → P x) → P y → P (cond b x y)
+by-cases P true h k = h refl
+by-cases P false h k = k
+
+pub tick-keeps : (a : Airframe) (f : Flight) (t : Tick) → refusedPlace a ≡ 0 → Held f → Running f → Keeps a f (tickOf a f t)
+unfolding tickOf flownOf keptOf
+tick-keeps a f t e g r =
+    by-cases (Keeps a f) (eqb (refusedPlace a) 0)
+    (λ i. by-cases (Keeps a f) (isInside f)
+    (λ u. by-cases (Keeps a f) (inside stepLeast stepMost (t .«step_s»))
+    (λ s. by-cases (Keeps a f) (isInside (nextOf a f t .flight)) (λ v. record { running = next-running a f t e s g r; still = next-still a f t; held = next-held a f t g }) (keeps-refused a f Departure g r))
+    (keeps-refused a f StepOutside g r))
+    (keeps-refused a f StateOutside g r))
+    (keeps-refused a f (NumberOutOfRange (refusedPlace a)) g r)
+
+-- ---- an accepted state is in its ranges
+pub accepted-running : (f : Flight) → outsideOf f ≡ 0 → Running f
+accepted-running f e = record { motor = λ k l. motor-within f e k l; servo = λ k l. servo-within f e k l }

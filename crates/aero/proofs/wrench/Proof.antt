@@ -26,7 +26,7 @@ still-requires c κs = search needs
 
 returns-2 : tie.Need-returns-2
 unfolding wrenchOf ofBits
-returns-2 c = simp (c .still .ensures, simp (c .before .before .norm .ensures) at (c .before .if1 .left), c .before .before .norm .ensures)
+returns-2 c = simp (c .still .ensures, simp (c .before .before .norm .ensures) at (c .before .if1 .left))
 
 pub wrench-spec : {M : Type 1} → statement M
 wrench-spec =
