@@ -4,6 +4,9 @@ ghost use mathlib.Core.Path.{_≡_};
 ghost use Prim.Native.Nat.{_≤_};
 ghost use Rattle.airframe.specs.Acceptance as Acceptance;
 ghost use Rattle.airframe.specs.Numbers as Numbers;
+ghost use Rattle.airframe.specs.Reflection as Reflection;
+ghost use mathlib.Core.List.{map};
+ghost use Rattle.vector.specs.Reflection.{reflectAxis};
 use fixed_wing::AeroCoefficients;
 use fixed_wing::FixedWingModel;
 use fixed_wing::ThrustFalloff;
@@ -361,4 +364,31 @@ fn zero_model() -> FixedWingModel
         thrust_line_below_cg_m: 0.0,
         motor_time_constant_s: 0.0,
     }
+}
+
+impl Airframe {
+    // The reflection of left and right: roll and yaw of motor torques and surface weights negated.
+    pub fn reflected(mut self) -> Self
+        ensures { λ r. ⌜ r ≡ Reflection.reflectAirframe self ⌝ }
+    {
+        let torques = self.torque_per_thrust_m;
+        let weights = self.weights;
+        let reflected_torques = reflected_axes(torques);
+        let reflected_weights = reflected_axes(weights);
+        self.torque_per_thrust_m = reflected_torques;
+        self.weights = reflected_weights;
+        self
+    }
+}
+
+fn reflected_axes(axes: [Vec3; 8]) -> [Vec3; 8]
+    ensures { λ r. ⌜ r ≡ map reflectAxis axes ⌝ }
+{
+    let mut out = axes;
+    let mut i = 0usize;
+    while i < 8 {
+        out[i] = out[i].reflected_axis();
+        i += 1;
+    }
+    out
 }

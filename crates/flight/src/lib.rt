@@ -3,6 +3,7 @@ ghost use mathlib.Core.Path.{_≡_};
 ghost use Prim.Native.Nat.{_≤_};
 ghost use lib.ListN.{length};
 ghost use Rattle.flight.specs.Envelope as Envelope;
+ghost use Rattle.flight.specs.Reflection as Reflection;
 use vector::Quaternion;
 use vector::Vec3;
 
@@ -116,5 +117,44 @@ impl Flight {
         ensures { λ r. ⌜ r ≡ Envelope.isInside self ⌝ }
     {
         self.outside() == 0
+    }
+}
+
+impl Flight {
+    // The reflection of left and right.
+    pub fn reflected(self) -> Self
+        ensures { λ r. ⌜ r ≡ Reflection.reflectFlight self ⌝ }
+    {
+        let position = self.position_ned_m;
+        let velocity = self.velocity_ned_mps;
+        let attitude = self.attitude;
+        let rates = self.angular_velocity_radps;
+        let motors = self.motors;
+        let servos = self.servos;
+        Flight {
+            position_ned_m: position.reflected(),
+            velocity_ned_mps: velocity.reflected(),
+            attitude: attitude.reflected(),
+            angular_velocity_radps: rates.reflected_axis(),
+            motors,
+            servos,
+        }
+    }
+}
+
+impl Tick {
+    // The reflection of left and right: wind east negated.
+    pub fn reflected(self) -> Self
+        ensures { λ r. ⌜ r ≡ Reflection.reflectTick self ⌝ }
+    {
+        let wind = self.wind_ned_mps;
+        let motors = self.motors;
+        let servos = self.servos;
+        Tick {
+            step_s: self.step_s,
+            wind_ned_mps: wind.reflected(),
+            motors,
+            servos,
+        }
     }
 }

@@ -1,9 +1,9 @@
 -- A loop over the 8 slots that sets one element at a turn leaves the list of a function's values. Assumes nothing.
 use Prim.Native.Nat.{_+_, _<_, _≤_, suc, zero, ℕ}
 use lib.Ieee.{Float, below}
-use lib.ListN.{getD, length, length-set, set}
+use lib.ListN.{getD, length, length-map, length-set, set}
 use lib.Seq.{ext-getD, getD-set-other, getD-set-same}
-use mathlib.Core.List.{List}
+use mathlib.Core.List.{List, [], _∷_, map}
 use mathlib.Core.Logic.{_⊎_, inl, inr}
 use mathlib.Core.Path.{_∙_, _≡_, ap, ap₂, refl, sym}
 use native.Mathlib.Nat.{eq-or-lt-of-le}
@@ -78,3 +78,12 @@ sum-more f n t v e h = ap₂ (λ (a b : Float). a ⊕ b) e h ∙ sym (ap (sumTo 
 pub vec-sum-more : (f : ℕ → Vec3) (n : ℕ) (t v r : Vec3) → t ≡ vecSumTo f n → v ≡ f n → r ≡ addOf t v → r ≡ vecSumTo f (n + 1)
 unfolding vecSumTo
 vec-sum-more f n t v r e h g = g ∙ ap₂ addOf e h ∙ sym (ap (vecSumTo f) (add-one n))
+
+-- ---- a list of 8 by its elements
+pub map-slots : {X Y : Type 0} (d : X) (g : X → Y) (xs : List X) → length xs ≡ 8 → slots (λ (k : ℕ). g (getD xs k d)) ≡ map g xs
+map-slots d g xs e = sym (ext-getD (g d) (map g xs) (slots (λ (k : ℕ). g (getD xs k d))) (length-map xs g ∙ e) (λ k l. getD-map g d xs k ∙ sym (slots-at (g d) (λ (k : ℕ). g (getD xs k d)) [] k (omega (arith, l, length-map xs g, e)))))
+  where
+    getD-map : {X Y : Type 0} (g : X → Y) (d : X) (xs : List X) (k : ℕ) → getD (map g xs) k (g d) ≡ g (getD xs k d)
+    getD-map g d [] k = refl
+    getD-map g d (x ∷ xs) zero = refl
+    getD-map g d (x ∷ xs) (suc k) = getD-map g d xs k

@@ -153,11 +153,18 @@ attitude-same s i q l h =
     let la : length a ≡ length s = length-putFloat s i (q .w) in
     let lb : length b ≡ length a = length-putFloat a (i + 4) (q .i) in
     let ld : length d ≡ length b = length-putFloat b (i + 8) (q .j) in
-    simp
-    (float-before d (i + 12) (q .k) i (omega arith), float-before b (i + 8) (q .j) i (omega arith), float-before a (i + 4) (q .i) i (omega arith), float-same s i (q .w) (omega arith) (h .w-fits),
-     float-before d (i + 12) (q .k) (i + 4) (omega arith), float-before b (i + 8) (q .j) (i + 4) (omega arith), float-same a (i + 4) (q .i) (omega arith) (h .i-fits),
-     float-before d (i + 12) (q .k) (i + 8) (omega arith), float-same b (i + 8) (q .j) (omega arith) (h .j-fits),
-     float-same d (i + 12) (q .k) (omega arith) (h .k-fits))
+    simp (
+      float-before d (i + 12) (q .k) i (omega arith),
+      float-before b (i + 8) (q .j) i (omega arith),
+      float-before a (i + 4) (q .i) i (omega arith),
+      float-same s i (q .w) (omega arith) (h .w-fits),
+      float-before d (i + 12) (q .k) (i + 4) (omega arith),
+      float-before b (i + 8) (q .j) (i + 4) (omega arith),
+      float-same a (i + 4) (q .i) (omega arith) (h .i-fits),
+      float-before d (i + 12) (q .k) (i + 8) (omega arith),
+      float-same b (i + 8) (q .j) (omega arith) (h .j-fits),
+      float-same d (i + 12) (q .k) (omega arith) (h .k-fits),
+    )
 
 -- ---- the slots
 
@@ -276,13 +283,19 @@ module _ (s : List ℕ) (i : ℕ) (f : Flight) (l : i + 116 ≤ length s) (h : F
   pub flight-same : flightFrom (putFlight s i f) i ≡ f
   unfolding flightFrom putFlight putBody
   flight-same =
-      simp
-      (vec-kept s1 s6 (i + 12) i k1 (omega arith), vec-same s i (f .«position_ned_m») (omega arith) (h .position-fits),
-       vec-kept s2 s6 (i + 24) (i + 12) k2 (omega arith), vec-same s1 (i + 12) (f .«velocity_ned_mps») (omega (arith, l1)) (h .velocity-fits),
-       attitude-kept s3 s6 (i + 40) (i + 24) k3 (omega arith), attitude-same s2 (i + 24) (f .attitude) (omega (arith, l2)) (h .attitude-fits),
-       vec-kept s4 s6 (i + 52) (i + 40) k4 (omega arith), vec-same s3 (i + 40) (f .«angular_velocity_radps») (omega (arith, l3)) (h .rates-fit),
-       slots-kept s5 s6 (i + 84) (i + 52) k5 (omega arith), slots-same s4 (i + 52) (f .motors) (omega (arith, l4)) (h .motors-fit),
-       slots-same s5 (i + 84) (f .servos) (omega (arith, l5)) (h .servos-fit))
+      simp (
+        vec-kept s1 s6 (i + 12) i k1 (omega arith),
+        vec-same s i (f .«position_ned_m») (omega arith) (h .position-fits),
+        vec-kept s2 s6 (i + 24) (i + 12) k2 (omega arith),
+        vec-same s1 (i + 12) (f .«velocity_ned_mps») (omega (arith, l1)) (h .velocity-fits),
+        attitude-kept s3 s6 (i + 40) (i + 24) k3 (omega arith),
+        attitude-same s2 (i + 24) (f .attitude) (omega (arith, l2)) (h .attitude-fits),
+        vec-kept s4 s6 (i + 52) (i + 40) k4 (omega arith),
+        vec-same s3 (i + 40) (f .«angular_velocity_radps») (omega (arith, l3)) (h .rates-fit),
+        slots-kept s5 s6 (i + 84) (i + 52) k5 (omega arith),
+        slots-same s4 (i + 52) (f .motors) (omega (arith, l4)) (h .motors-fit),
+        slots-same s5 (i + 84) (f .servos) (omega (arith, l5)) (h .servos-fit),
+      )
 
 -- a state within the envelope, written into 116 bytes and read again, is accepted and the same
 pub written-then-read : (s : List ℕ) (f : Flight) → length s ≡ 116 → FlightFits f → outsideOf f ≡ 0 → readStateOf (writtenState s f) ≡ acceptedState f

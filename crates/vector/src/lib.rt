@@ -3,6 +3,7 @@
 ghost use mathlib.Core.Path.{_≡_};
 ghost use Rattle.vector.specs.Vector as Vector;
 ghost use Rattle.vector.specs.Rotation as Rotation;
+ghost use Rattle.vector.specs.Reflection as Reflection;
 
 // A vector on NED world axes (north, east, down) or on FRD body axes (forward, right, down).
 pub struct Vec3 {
@@ -120,7 +121,43 @@ impl Vec3 {
     }
 }
 
+impl Vec3 {
+    // The reflection of left and right of a vector, as a position, a velocity or a force.
+    pub fn reflected(self) -> Self
+        ensures { λ r. ⌜ r ≡ Reflection.reflectVec self ⌝ }
+    {
+        Self {
+            x: self.x,
+            y: -self.y,
+            z: self.z,
+        }
+    }
+
+    // The reflection of an axis, as body rates or a torque.
+    pub fn reflected_axis(self) -> Self
+        ensures { λ r. ⌜ r ≡ Reflection.reflectAxis self ⌝ }
+    {
+        Self {
+            x: -self.x,
+            y: self.y,
+            z: -self.z,
+        }
+    }
+}
+
 impl Quaternion {
+    // The reflection of an attitude.
+    pub fn reflected(self) -> Self
+        ensures { λ r. ⌜ r ≡ Reflection.reflectQuat self ⌝ }
+    {
+        Self {
+            w: self.w,
+            i: -self.i,
+            j: self.j,
+            k: -self.k,
+        }
+    }
+
     pub fn identity() -> Self
         ensures { λ r. ⌜ r ≡ Rotation.identity ⌝ }
     {
