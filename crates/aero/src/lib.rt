@@ -143,14 +143,21 @@ fn flow_of(model: FixedWingModel, air_mps: Vec3, density_kgpm3: f32) -> Flow
 {
     let c = model.aero;
     let alpha_rad = libm::atan2f(air_mps.z, air_mps.x);
-    let symmetric_speed_mps = libm::sqrtf(air_mps.x * air_mps.x + air_mps.z * air_mps.z);
+    let speed_mps = symmetric_speed_mps(air_mps);
     Flow {
         alpha_rad,
         blend: stall_blend(c, alpha_rad),
         sin_alpha: libm::sinf(alpha_rad),
         cos_alpha: libm::cosf(alpha_rad),
-        symmetric_area_n: pressure_area_n(model, symmetric_speed_mps, density_kgpm3),
+        symmetric_area_n: pressure_area_n(model, speed_mps, density_kgpm3),
     }
+}
+
+// The speed of the air in the plane of symmetry.
+fn symmetric_speed_mps(air_mps: Vec3) -> f32
+    ensures { λ r. ⌜ r ≡ Wrench.symmetricSpeed «air_mps» ⌝ }
+{
+    libm::sqrtf(air_mps.x * air_mps.x + air_mps.z * air_mps.z)
 }
 
 fn sideslip(air_y_mps: f32, speed_mps: f32) -> f32

@@ -1,0 +1,50 @@
+-- A loop over a trace's ticks: one turn, and the end. Assumes nothing.
+use Prim.Native.Nat.{_*_, _+_, _-_, _<_, _≤_, suc, ℕ}
+use lib.Dec.{eqb}
+use mathlib.Core.Bool.{Bool, false}
+use mathlib.Core.List.{List, [], _∷_, map}
+use mathlib.Core.Path.{_∙_, _≡_, ap, refl, sym}
+use native.Mathlib.Nat.{add-zero}
+use native.Mathlib.Numerals.{add-one}
+use native.Mathlib.Omega.{arith}
+use Rattle.airframe.specs.Acceptance.{refusedPlace}
+use Rattle.airframe.specs.declared.Airframe.{Airframe}
+use Rattle.flight.specs.declared.Flight.{Flight}
+use Rattle.flight.specs.declared.Tick.{Tick}
+use Rattle.float.proofs.Ordered.{some-eqb}
+use Rattle.state_block.specs.Layout.{tickFrom}
+use Rattle.wing.specs.Tick.{flownOf, refusedOf, tickOf}
+use Rattle.run.specs.Run.{Progress, oneIfDone, progressed, runFrom, seen, ticksFrom}
+
+-- what is left of the run at tick i of n
+abbrev pub left : Bool → Airframe → List ℕ → ℕ → ℕ → Progress → Progress
+left r a s i n p = runFrom a p (map (seen r) (ticksFrom s i (n - i)))
+
+pub turn : (r : Bool) (a : Airframe) (s : List ℕ) (i n : ℕ) (p : Progress) → i < n → left r a s i n p ≡ left r a s (i + 1) n (progressed a p (seen r (tickFrom s (80 * i))))
+unfolding runFrom ticksFrom
+turn r a s i n p l = ap (λ (m : ℕ). runFrom a p (map (seen r) (ticksFrom s i m))) (less i n l) ∙ ap (λ (j : ℕ). runFrom a (progressed a p (seen r (tickFrom s (80 * i)))) (map (seen r) (ticksFrom s j (n - (i + 1))))) (sym (add-one i))
+  where
+    less : (i n : ℕ) → i < n → n - i ≡ suc (n - (i + 1))
+    less i n l = omega arith
+
+pub turned : (r : Bool) (a : Airframe) (s : List ℕ) (i n : ℕ) (p : Progress) → n ≤ i → left r a s i n p ≡ p
+unfolding runFrom ticksFrom
+turned r a s i n p l = ap (λ (m : ℕ). runFrom a p (map (seen r) (ticksFrom s i m))) (none i n l)
+  where
+    none : (i n : ℕ) → n ≤ i → n - i ≡ 0
+    none i n l = omega arith
+
+-- of an accepted airframe test 6 passes
+pub accepted-tick : (a : Airframe) (f : Flight) (t : Tick) → refusedPlace a ≡ 0 → tickOf a f t ≡ flownOf a f t
+unfolding tickOf
+accepted-tick a f t e = rw e
+
+refused-stays : (a : Airframe) (p : Progress) (t : Tick) → eqb (refusedPlace a) 0 ≡ false → progressed a p t ≡ p
+unfolding progressed tickOf refusedOf oneIfDone
+refused-stays a p t e = rw (e, add-zero)
+
+-- of a refused one every tick hands back its state, and none is accepted
+pub refused-run : (a : Airframe) (p : Progress) (ts : List Tick) → (refusedPlace a ≡ 0 → ⊥) → runFrom a p ts ≡ p
+unfolding runFrom
+refused-run a p [] n = refl
+refused-run a p (t ∷ ts) n = ap (λ (q : Progress). runFrom a q ts) (refused-stays a p t (some-eqb (refusedPlace a) n)) ∙ refused-run a p ts n

@@ -1,0 +1,3 @@
+-- The run over a trace, and demand 3. Definitions only.
+pub mod Run
+pub mod Mirrored

@@ -1,0 +1,104 @@
+// The run over a trace of ticks, and the mirrored pair of runs.
+ghost use mathlib.Core.Path.{_≡_};
+ghost use Prim.Native.Nat.{_≤_, _+_, _*_};
+ghost use Rattle.state_block.specs.Layout.{tickFrom};
+ghost use lib.ListN.{length};
+ghost use Rattle.airframe.specs.Acceptance.{refusedPlace};
+ghost use Rattle.run.specs.Run as Run;
+ghost use Rattle.run.specs.Mirrored as Mirrored;
+use airframe::Airframe;
+use answers::Answer;
+use flight::Flight;
+use flight::Tick;
+
+// A run's answer, 0 or 1, its end state and how many of its ticks were accepted.
+pub struct Ran {
+    pub answer: Answer,
+    pub flight: Flight,
+    pub accepted: u64,
+}
+
+// A run and its reflection.
+pub struct Pair {
+    pub first: Ran,
+    pub second: Ran,
+}
+
+// Flies the whole trace from `f`: a trace that is not whole ticks gets 1 and leaves `f`; a refused tick leaves the state, and the
+// next one follows.
+pub fn run(a: Airframe, f: Flight, trace: &[u8]) -> Ran
+    ensures { λ r. ⌜ r ≡ Run.ranOf a f (now (trace .entry)) ⌝ }
+{
+    seen_run(a, f, trace, false)
+}
+
+// Flies the trace and, from the reflected state with the reflected airframe, its reflection.
+pub fn mirrored_pair(a: Airframe, f: Flight, trace: &[u8]) -> Pair
+    ensures { λ r. ⌜ Mirrored.Flown a f (now (trace .entry)) r ⌝ }
+{
+    let first = seen_run(a, f, trace, false);
+    let second = seen_run(a.reflected(), f.reflected(), trace, true);
+    Pair { first, second }
+}
+
+// A run over the trace's ticks as they are, or each one reflected.
+fn seen_run(a: Airframe, f: Flight, trace: &[u8], reflect: bool) -> Ran
+    ensures { λ r. ⌜ r ≡ Run.seenRan reflect a f (now (trace .entry)) ⌝ }
+{
+    if trace.len() % 80 != 0 {
+        return ended(Answer::WrongLength, f, 0);
+    }
+    let place = a.refused_place();
+    if place == 0 {
+        return fly_all(a, f, trace, reflect);
+    }
+    ended(Answer::Done, f, 0)
+}
+
+fn ended(answer: Answer, flight: Flight, accepted: u64) -> Ran
+    ensures { λ r. ⌜ r ≡ Run.ended answer flight accepted ⌝ }
+{
+    Ran {
+        answer,
+        flight,
+        accepted,
+    }
+}
+
+// The ticks one after the other, of an airframe that is accepted.
+fn fly_all(a: Airframe, f: Flight, trace: &[u8], reflect: bool) -> Ran
+    requires { ⌜ refusedPlace a ≡ 0 ⌝ }
+    ensures { λ r. ⌜ r ≡ Run.flewAll reflect a f (now (trace .entry)) ⌝ }
+{
+    let count = trace.len() / 80;
+    let mut flight = f;
+    let mut accepted = 0u64;
+    let mut i = 0usize;
+    while i < count {
+        let done = wing::flown(a, flight, tick_at(trace, i, reflect));
+        let report = done.report;
+        let answer = report.answer;
+        accepted += one_if_done(answer);
+        flight = done.flight;
+        i += 1;
+    }
+    ended(Answer::Done, flight, accepted)
+}
+
+// The trace's tick i, as it is or reflected.
+fn tick_at(trace: &[u8], i: usize, reflect: bool) -> Tick
+    requires { ⌜ 80 * i + 80 ≤ length (now trace) ⌝ }
+    ensures { λ r. ⌜ r ≡ Run.seen reflect (tickFrom (now (trace .entry)) (80 * i)) ⌝ }
+{
+    let t = state_block::read_tick(trace, 80 * i);
+    if reflect {
+        return t.reflected();
+    }
+    t
+}
+
+fn one_if_done(answer: Answer) -> u64
+    ensures { λ r. ⌜ r ≡ Run.oneIfDone answer ⌝ ∗ ⌜ r ≤ 1 ⌝ }
+{
+    if answer.number() == 0 { 1 } else { 0 }
+}
