@@ -12,3 +12,4 @@ pub mod Mirror
 pub mod Patterns
 pub mod Integers
 pub mod Ordered
+pub mod Held

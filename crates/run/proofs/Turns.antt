@@ -1,19 +1,21 @@
 -- A loop over a trace's ticks: one turn, and the end. Assumes nothing.
 use Prim.Native.Nat.{_*_, _+_, _-_, _<_, _≤_, suc, ℕ}
 use lib.Dec.{eqb}
-use mathlib.Core.Bool.{Bool, false}
+use mathlib.Core.Bool.{Bool, false, true}
 use mathlib.Core.List.{List, [], _∷_, map}
-use mathlib.Core.Path.{_∙_, _≡_, ap, refl, sym}
+use mathlib.Core.Path.{_∙_, _≡_, ap, ap₂, refl, sym}
 use native.Mathlib.Nat.{add-zero}
 use native.Mathlib.Numerals.{add-one}
 use native.Mathlib.Omega.{arith}
 use Rattle.airframe.specs.Acceptance.{refusedPlace}
 use Rattle.airframe.specs.declared.Airframe.{Airframe}
+use Rattle.flight.specs.Reflection.{reflectTick}
 use Rattle.flight.specs.declared.Flight.{Flight}
 use Rattle.flight.specs.declared.Tick.{Tick}
 use Rattle.float.proofs.Ordered.{some-eqb}
 use Rattle.state_block.specs.Layout.{tickFrom}
 use Rattle.wing.specs.Tick.{flownOf, refusedOf, tickOf}
+use Rattle.wing.specs.declared.Ticked.{Ticked}
 use Rattle.run.specs.Run.{Progress, oneIfDone, progressed, runFrom, seen, ticksFrom}
 
 -- what is left of the run at tick i of n
@@ -48,3 +50,26 @@ pub refused-run : (a : Airframe) (p : Progress) (ts : List Tick) → (refusedPla
 unfolding runFrom
 refused-run a p [] n = refl
 refused-run a p (t ∷ ts) n = ap (λ (q : Progress). runFrom a q ts) (refused-stays a p t (some-eqb (refusedPlace a) n)) ∙ refused-run a p ts n
+
+-- what a turn of the loop keeps is the run's progress
+pub progress : (a : Airframe) (p : Progress) (t u : Tick) (k : Ticked) (n : ℕ) → refusedPlace a ≡ 0 → u ≡ t → k ≡ flownOf a (p .flight) u → n ≡ oneIfDone (k .report .answer)
+    → _≡_ {A = Progress} (record { flight = k .flight; accepted = p .accepted + n }) (progressed a p t)
+unfolding progressed
+progress a p t u k n e h g m =
+    let q : k ≡ tickOf a (p .flight) t = g ∙ ap (flownOf a (p .flight)) h ∙ sym (accepted-tick a (p .flight) t e) in
+    ap₂ (λ (x : Ticked) (j : ℕ). record { flight = x .flight; accepted = p .accepted + j }) q (m ∙ ap (λ (x : Ticked). oneIfDone (x .report .answer)) q)
+
+-- at the end
+pub whole : (n : ℕ) → n - 0 ≡ n
+whole n = omega arith
+
+-- ---- the ticks as they are, and each one reflected
+pub seen-plain : (ts : List Tick) → map (seen false) ts ≡ ts
+unfolding seen
+seen-plain [] = refl
+seen-plain (t ∷ ts) = ap (λ (us : List Tick). t ∷ us) (seen-plain ts)
+
+pub seen-reflected : (ts : List Tick) → map (seen true) ts ≡ map reflectTick ts
+unfolding seen
+seen-reflected [] = refl
+seen-reflected (t ∷ ts) = ap (λ (us : List Tick). reflectTick t ∷ us) (seen-reflected ts)

@@ -27,13 +27,13 @@ use Rattle.run.specs.declared.Pair.{Pair}
 
 -- two lists of one length, related element by element
 pub data Each {X : Type 0} (R : X → X → Type 0) : List X → List X → Type 0 where
-  none : Each R [] []
-  more : {x y : X} {xs ys : List X} → R x y → Each R xs ys → Each R (x ∷ xs) (y ∷ ys)
+  each-none : Each R [] []
+  each-more : {x y : X} {xs ys : List X} → R x y → Each R xs ys → Each R (x ∷ xs) (y ∷ ys)
 
 -- each element of a list
 pub data All {X : Type 0} (P : X → Type 0) : List X → Type 0 where
-  none : All P []
-  more : {x : X} {xs : List X} → P x → All P xs → All P (x ∷ xs)
+  all-none : All P []
+  all-more : {x : X} {xs : List X} → P x → All P xs → All P (x ∷ xs)
 
 -- one tick in both runs
 pub record Agree (k k' : Ticked) : Type 0 where

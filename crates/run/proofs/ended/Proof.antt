@@ -1,9 +1,12 @@
 -- `run::ended` meets its contract. Assumes nothing.
+use mathlib.Core.Path.{refl}
+use Rattle.run.specs.Run.{ended}
 use Rattle.run.proofs.ended.Statement.{statement}
 use Rattle.run.proofs.ended.Tie as tie
 
 returns : tie.Need-returns
-returns c = ?
+unfolding ended
+returns c = refl
 
 pub ended-spec : {M : Type 1} → statement M
 ended-spec = tie.close (tie.spec returns)

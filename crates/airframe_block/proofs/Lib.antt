@@ -1,0 +1,2 @@
+-- Laws of the airframe block.
+pub mod Filling

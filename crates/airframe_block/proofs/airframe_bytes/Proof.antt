@@ -1,0 +1,18 @@
+-- `airframe_block::airframe_bytes` meets its contract. Assumes nothing.
+use mathlib.Core.Path.{_∙_, ap}
+use borrow.Author.Needs.{needs}
+use Rattle.airframe_block.specs.Block.{bytesOf}
+use Rattle.airframe_block.proofs.airframe_bytes.Statement.{statement}
+use Rattle.airframe_block.proofs.airframe_bytes.Tie as tie
+
+header-of-requires : tie.Need-header-of-requires
+header-of-requires c κs = search needs
+
+bytes-requires : tie.Need-bytes-requires
+bytes-requires c κs = ?
+
+returns : tie.Need-returns
+returns c = c .bytes .ensures ∙ ap bytesOf (c .before .header-of .ensures)
+
+pub airframe-bytes-spec : {M : Type 1} → statement M
+airframe-bytes-spec = tie.close (tie.spec header-of-requires bytes-requires returns)

@@ -1,0 +1,66 @@
+-- `airframe_block::reserved_row` meets its contract. Assumes nothing.
+use Prim.Native.Nat.{_-_, _≤_}
+use mathlib.Core.Path.{_∙_, _≡_, sym}
+use borrow.Author.Needs.{needs}
+use Rattle.float.proofs.Ordered.{fail-end}
+use Rattle.float.specs.Ordered.{firstFail}
+use Rattle.airframe_block.proofs.Filling.{from-start}
+use Rattle.airframe_block.specs.Block.{reservedRow, rowClear}
+use Rattle.airframe_block.proofs.reserved_row.Statement.{statement}
+use Rattle.airframe_block.proofs.reserved_row.Tie as tie
+
+abbrev Inv-loop : tie.InvT-loop
+Inv-loop s start count k₀ k = (k ≤ count) × (firstFail (rowClear s start) 0 count ≡ firstFail (rowClear s start) k (count - k))
+
+abbrev μ-loop : tie.MeasureT-loop
+μ-loop s start count k₀ k = count - k
+
+loop-holds : tie.Need-loop-holds Inv-loop μ-loop
+loop-holds c = (search needs, from-start _ _)
+
+mul-if1 : tie.Need-mul-if1 Inv-loop μ-loop
+mul-if1 c = search needs
+
+add-if1 : tie.Need-add-if1 Inv-loop μ-loop
+add-if1 c = search needs
+
+shared-slice-read-if1 : tie.Need-shared-slice-read-if1 Inv-loop μ-loop
+shared-slice-read-if1 c = search needs
+
+add-result : tie.Need-add-result Inv-loop μ-loop
+add-result c = search needs
+
+returns : tie.Need-returns Inv-loop μ-loop
+unfolding reservedRow rowClear
+returns c = ?
+
+add-k : tie.Need-add-k Inv-loop μ-loop
+add-k c = search needs
+
+loop-less : tie.Need-loop-less Inv-loop μ-loop
+loop-less c = search needs
+
+loop-again : tie.Need-loop-again Inv-loop μ-loop
+unfolding rowClear
+loop-again c = ?
+
+returns-2 : tie.Need-returns-2 Inv-loop μ-loop
+unfolding reservedRow
+returns-2 c = sym (c .before .loop .inv .1 ∙ fail-end _ (c .before .loop .k) _ (c .loop-test .left))
+
+pub reserved-row-spec : {M : Type 1} → statement M
+reserved-row-spec =
+    tie.close
+    (tie.spec
+    Inv-loop
+    μ-loop
+    loop-holds
+    mul-if1
+    add-if1
+    shared-slice-read-if1
+    add-result
+    returns
+    add-k
+    loop-less
+    loop-again
+    returns-2)

@@ -1,0 +1,16 @@
+-- `airframe_block::slot_of` meets its contract. Assumes nothing.
+use borrow.Author.Tests.{ne-eqb}
+use Rattle.airframe_block.specs.Block.{slotOf}
+use Rattle.airframe_block.proofs.slot_of.Statement.{statement}
+use Rattle.airframe_block.proofs.slot_of.Tie as tie
+
+returns : tie.Need-returns
+unfolding slotOf
+returns c = simp (c .if1 .taken)
+
+returns-2 : tie.Need-returns-2
+unfolding slotOf
+returns-2 c = simp (ne-eqb _ _ (c .if1 .left))
+
+pub slot-of-spec : {M : Type 1} → statement M
+slot-of-spec = tie.close (tie.spec returns returns-2)

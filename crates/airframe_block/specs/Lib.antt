@@ -1,0 +1,2 @@
+-- The airframe block. Definitions only.
+pub mod Block

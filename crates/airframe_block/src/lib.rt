@@ -1,0 +1,395 @@
+// The airframe block (01, "Blocks"): its header's bits, its numbers by place, its rows, and what reading it gives.
+ghost use mathlib.Core.Path.{_≡_};
+ghost use Prim.Native.Nat.{_+_, _*_, _≤_};
+ghost use Rattle.airframe_block.specs.Block as Block;
+use airframe::Airframe;
+use answers::Answer;
+use fixed_wing::AeroCoefficients;
+use fixed_wing::FixedWingModel;
+use fixed_wing::ThrustFalloff;
+use mixers::MixRow;
+use mixers::Rows;
+use mixers::Slot;
+use motors::MotorLayout;
+use motors::Motors;
+use surfaces::Surfaces;
+use tailsitter_model::PropWash;
+use vector::Vec3;
+
+// What reading an airframe block gives: the reply, and the airframe, all zeros where it is refused.
+pub struct AirframeRead {
+    pub answer: Answer,
+    pub airframe: Airframe,
+}
+
+// What the block's two first bytes say.
+struct Header {
+    version: u8,
+    kind: u8,
+    // 1 where a wash is present, else 0.
+    wash: usize,
+    // The four reserved bits.
+    reserved: u8,
+    rows: usize,
+}
+
+fn wide(b: u8) -> usize
+    ensures { λ r. ⌜ r ≡ b ⌝ }
+{
+    b as usize
+}
+
+// The header of the bytes a and b, most significant bits first.
+fn header_of(a: u8, b: u8) -> Header
+    ensures { λ r. ⌜ r ≡ Block.headerOf a b ⌝ }
+{
+    let wash = wide(a / 2 % 2);
+    let rows = wide(b % 32);
+    Header {
+        version: a / 16,
+        kind: a / 4 % 4,
+        wash,
+        reserved: a % 2 * 8 + b / 32,
+        rows,
+    }
+}
+
+impl Header {
+    // Where the rows begin.
+    fn rows_at(self) -> usize
+        requires { ⌜ self .wash ≤ 1 ⌝ }
+        ensures { λ r. ⌜ r ≡ Block.rowsAt self ⌝ ∗ ⌜ r ≤ 194 ⌝ }
+    {
+        166 + 28 * self.wash
+    }
+
+    // How many bytes the block has.
+    fn bytes(self) -> usize
+        requires { ⌜ self .wash ≤ 1 ⌝ ∗ ⌜ self .rows ≤ 31 ⌝ }
+        ensures { λ r. ⌜ r ≡ Block.bytesOf self ⌝ }
+    {
+        let start = self.rows_at();
+        start + 13 * self.rows
+    }
+
+    // How many numbers it has.
+    fn number_count(self) -> usize
+        requires { ⌜ self .wash ≤ 1 ⌝ }
+        ensures { λ r. ⌜ r ≡ Block.numberCount self ⌝ ∗ ⌜ r ≤ 48 ⌝ }
+    {
+        41 + 7 * self.wash
+    }
+}
+
+// The first `count` numbers of the block; the others are 0.
+fn read_numbers(s: &[u8], count: usize) -> [f32; 48]
+    requires { ⌜ count ≤ 48 ⌝ ∗ do ⌜ 2 + 4 * count ≤ (← ⟦s.len()⟧) ⌝ }
+    ensures { λ r. ⌜ r ≡ Block.numbersFrom (now (s .entry)) count ⌝ }
+{
+    let mut xs = [0.0; 48];
+    let mut k = 0usize;
+    while k < count {
+        xs[k] = float::read(s, 2 + 4 * k);
+        k += 1;
+    }
+    xs
+}
+
+fn falloff_of(kind: u8, x: f32) -> ThrustFalloff
+    ensures { λ r. ⌜ r ≡ Block.falloffOf kind x ⌝ }
+{
+    if kind == 0 {
+        return ThrustFalloff::Linear(x);
+    }
+    ThrustFalloff::PitchSpeed(x)
+}
+
+fn coefficients_of(xs: [f32; 48]) -> AeroCoefficients
+    ensures { λ r. ⌜ r ≡ Block.coefficientsOf xs ⌝ }
+{
+    AeroCoefficients {
+        c_lift_0: xs[7],
+        c_lift_alpha: xs[8],
+        alpha_stall_rad: xs[9],
+        stall_sharpness: xs[10],
+        c_drag_0: xs[11],
+        oswald: xs[12],
+        c_side_beta: xs[13],
+        c_side_rudder: xs[14],
+        c_roll_beta: xs[15],
+        c_roll_p: xs[16],
+        c_roll_r: xs[17],
+        c_roll_aileron: xs[18],
+        c_roll_rudder: xs[19],
+        c_pitch_0: xs[20],
+        c_pitch_alpha: xs[21],
+        post_stall_pitch_share: xs[22],
+        c_pitch_q: xs[23],
+        c_pitch_elevator: xs[24],
+        surface_stall_share: xs[25],
+        c_yaw_beta: xs[26],
+        c_yaw_p: xs[27],
+        c_yaw_r: xs[28],
+        c_yaw_rudder: xs[29],
+    }
+}
+
+fn model_of(xs: [f32; 48], kind: u8) -> FixedWingModel
+    ensures { λ r. ⌜ r ≡ Block.modelOf xs kind ⌝ }
+{
+    let aero = coefficients_of(xs);
+    let inertia_kgm2 = Vec3::new(xs[1], xs[2], xs[3]);
+    let max_deflection_rad = Vec3::new(xs[30], xs[31], xs[32]);
+    let thrust_falloff = falloff_of(kind, xs[36]);
+    FixedWingModel {
+        mass_kg: xs[0],
+        inertia_kgm2,
+        wing_area_m2: xs[4],
+        span_m: xs[5],
+        chord_m: xs[6],
+        aero,
+        max_deflection_rad,
+        servo_time_constant_s: xs[33],
+        max_thrust_n: xs[34],
+        thrust_exponent: xs[35],
+        thrust_falloff,
+        thrust_line_below_cg_m: xs[37],
+        motor_time_constant_s: xs[38],
+    }
+}
+
+fn wash_of(xs: [f32; 48]) -> PropWash
+    ensures { λ r. ⌜ r ≡ Block.washOf xs ⌝ }
+{
+    PropWash {
+        disc_area_m2: xs[41],
+        surface_fraction: xs[42],
+        roll_fraction: xs[43],
+        damping_fraction: xs[47],
+        sink_loss: xs[46],
+        pitch_moment: xs[44],
+        stall_pitch_moment: xs[45],
+    }
+}
+
+fn layout_of(xs: [f32; 48]) -> MotorLayout
+    ensures { λ r. ⌜ r ≡ Block.layoutOf xs ⌝ }
+{
+    MotorLayout {
+        moment_arm_m: xs[39],
+        yaw_torque_per_thrust_m: xs[40],
+        max_thrust_n: xs[34],
+        thrust_exponent: xs[35],
+    }
+}
+
+// What a row's first byte drives.
+fn slot_of(b: u8) -> Slot
+    ensures { λ r. ⌜ r ≡ Block.slotOf b ⌝ }
+{
+    if b / 128 == 0 {
+        return Slot::Motor(b / 16 % 8);
+    }
+    Slot::Servo(b / 16 % 8)
+}
+
+// The row whose 13 bytes stand at i.
+fn read_row(s: &[u8], i: usize) -> MixRow
+    requires { do ⌜ i + 13 ≤ (← ⟦s.len()⟧) ⌝ }
+    ensures { λ r. ⌜ r ≡ Block.rowFrom (now (s .entry)) i ⌝ }
+{
+    let slot = slot_of(s[i]);
+    let roll = float::read(s, i + 1);
+    let pitch = float::read(s, i + 5);
+    let yaw = float::read(s, i + 9);
+    MixRow {
+        slot,
+        roll,
+        pitch,
+        yaw,
+    }
+}
+
+// The `count` rows that stand at `start`.
+fn read_rows(s: &[u8], start: usize, count: usize) -> Rows
+    requires { ⌜ count ≤ 16 ⌝ ∗ do ⌜ start + 13 * count ≤ (← ⟦s.len()⟧) ⌝ }
+    ensures { λ r. ⌜ r ≡ Block.rowsFrom (now (s .entry)) start count ⌝ }
+{
+    let empty = MixRow {
+        slot: Slot::Motor(0),
+        roll: 0.0,
+        pitch: 0.0,
+        yaw: 0.0,
+    };
+    let mut rows = [empty; 16];
+    let mut k = 0usize;
+    while k < count {
+        rows[k] = read_row(s, start + 13 * k);
+        k += 1;
+    }
+    Rows { rows, count }
+}
+
+// The first of the `count` rows at `start` with a reserved bit set, counted from 1; 0 for none.
+fn reserved_row(s: &[u8], start: usize, count: usize) -> usize
+    requires { ⌜ count ≤ 16 ⌝ ∗ do ⌜ start + 13 * count ≤ (← ⟦s.len()⟧) ⌝ }
+    ensures { λ r. ⌜ r ≡ Block.reservedRow (now (s .entry)) start count ⌝ }
+{
+    let mut k = 0usize;
+    while k < count {
+        if s[start + 13 * k] % 16 != 0 {
+            return k + 1;
+        }
+        k += 1;
+    }
+    0
+}
+
+// Whether a row's factor is 0 or of size 0.01 to 10.
+fn factor_fits(x: f32) -> bool
+    ensures { λ r. ⌜ r ≡ Block.factorFits x ⌝ }
+{
+    if x == 0.0 {
+        return true;
+    }
+    float::inside(float::size(x), 0.01, 10.0)
+}
+
+fn row_fits(row: MixRow) -> bool
+    ensures { λ r. ⌜ r ≡ Block.rowFits row ⌝ }
+{
+    if factor_fits(row.roll) {
+        if factor_fits(row.pitch) {
+            return factor_fits(row.yaw);
+        }
+        return false;
+    }
+    false
+}
+
+// The first row with a bad factor, counted from 1; 0 for none.
+fn bad_row(rows: Rows) -> usize
+    ensures { λ r. ⌜ r ≡ Block.badRow rows ⌝ }
+{
+    let list = rows.rows;
+    let count = rows.live();
+    let mut k = 0usize;
+    while k < count {
+        if !row_fits(list[k]) {
+            return k + 1;
+        }
+        k += 1;
+    }
+    0
+}
+
+// The lowest place out of range, p being the lowest of the others than 49, and 49 that of a bad row factor.
+fn lowest_place(p: u32, bad: usize) -> u32
+    ensures { λ r. ⌜ r ≡ Block.lowestPlace p bad ⌝ }
+{
+    if bad == 0 {
+        return p;
+    }
+    if p == 0 {
+        return 49;
+    }
+    if p < 49 {
+        return p;
+    }
+    49
+}
+
+// The airframe of the numbers, the header and the rows.
+fn airframe_by(xs: [f32; 48], h: Header, rows: Rows) -> Airframe
+    ensures { λ r. ⌜ r ≡ Block.airframeBy xs h rows ⌝ }
+{
+    let motors = Motors::new(rows, layout_of(xs));
+    let surfaces = Surfaces::new(rows);
+    let model = model_of(xs, h.kind);
+    let wash = wash_of(xs);
+    let used = motors.used;
+    let torque_per_thrust_m = motors.torque_per_thrust_m;
+    let weights = surfaces.weights;
+    Airframe {
+        model,
+        moment_arm_m: xs[39],
+        yaw_torque_per_thrust_m: xs[40],
+        wash_present: h.wash == 1,
+        wash,
+        used,
+        torque_per_thrust_m,
+        weights,
+    }
+}
+
+// A refused block: the reply, and an airframe of zeros.
+fn refused(answer: Answer) -> AirframeRead
+    ensures { λ r. ⌜ r ≡ Block.refusedAirframe answer ⌝ }
+{
+    let airframe = Airframe::zero();
+    AirframeRead { answer, airframe }
+}
+
+// The airframe, refused where a number is out of range.
+fn placed(airframe: Airframe, rows: Rows) -> AirframeRead
+    ensures { λ r. ⌜ r ≡ Block.placedAirframe airframe rows ⌝ }
+{
+    let p = lowest_place(airframe.refused_place(), bad_row(rows));
+    if p != 0 {
+        return refused(Answer::NumberOutOfRange(p));
+    }
+    AirframeRead {
+        answer: Answer::Done,
+        airframe,
+    }
+}
+
+// The block of header `h`, whose length is right: reserved bits of the rows, then the numbers.
+fn read_body(s: &[u8], h: Header) -> AirframeRead
+    requires { ⌜ h .wash ≤ 1 ⌝ ∗ ⌜ h .rows ≤ 16 ⌝ ∗ do ⌜ Block.bytesOf h ≤ (← ⟦s.len()⟧) ⌝ }
+    ensures { λ r. ⌜ r ≡ Block.readBody (now (s .entry)) h ⌝ }
+{
+    let start = h.rows_at();
+    let count = h.rows;
+    if reserved_row(s, start, count) != 0 {
+        return refused(Answer::ReservedBit);
+    }
+    let rows = read_rows(s, start, count);
+    let xs = read_numbers(s, h.number_count());
+    placed(airframe_by(xs, h, rows), rows)
+}
+
+// The airframe block `s`.
+pub fn read_airframe(s: &[u8]) -> AirframeRead
+    ensures { λ r. ⌜ r ≡ Block.readAirframeOf (now (s .entry)) ⌝ }
+{
+    let n = s.len();
+    if n < 2 {
+        return refused(Answer::WrongLength);
+    }
+    let h = header_of(s[0], s[1]);
+    if h.version != 1 {
+        return refused(Answer::WrongVersion);
+    }
+    if h.kind > 1 {
+        return refused(Answer::WrongFalloff);
+    }
+    if h.reserved != 0 {
+        return refused(Answer::ReservedBit);
+    }
+    if h.rows > 16 {
+        return refused(Answer::TooManyRows);
+    }
+    if n != h.bytes() {
+        return refused(Answer::WrongLength);
+    }
+    read_body(s, h)
+}
+
+// How many bytes the airframe block has whose first two bytes are a and b.
+pub fn airframe_bytes(a: u8, b: u8) -> usize
+    ensures { λ r. ⌜ r ≡ Block.bytesOf (Block.headerOf a b) ⌝ }
+{
+    let h = header_of(a, b);
+    h.bytes()
+}

@@ -1,0 +1,23 @@
+-- What owning an array of 32-bit floats tells: the format holds each element, and a NaN stands past its end. Assumes nothing.
+use mathlib.Core.Path.{_≡_, sym, subst}
+use mathlib.Core.List.{List, [], _∷_, map, map-id}
+use Prim.Native.Nat.{ℕ, zero, suc}
+use lib.Dec.{T}
+use lib.ListN.{getD}
+use lib.Ieee.{Float, nan, binary32, fits}
+use mir.Val.{Val}
+use denote.Shadow.{shadow}
+use denote.Array.{each}
+use denote.Struct.Field.{f32-field}
+
+each-held : (xs : List Float) (us : List Val) (i : ℕ) → shadow (each Float (f32-field .row .own) xs us) → T (fits binary32 (getD xs i nan))
+unfolding fits
+each-held [] [] i p = tt
+each-held [] (u ∷ us) i p = absurd p
+each-held (x ∷ xs) [] i p = absurd p
+each-held (x ∷ xs) (u ∷ us) zero p = subst T (sym (p .0 .1)) tt
+each-held (x ∷ xs) (u ∷ us) (suc i) p = each-held xs us i (p .1)
+
+-- as a struct's field
+pub field-held : (xs : List Float) (us : List Val) (i : ℕ) → shadow (each Float (f32-field .row .own) (map (λ (v : Float). v) xs) us) → T (fits binary32 (getD xs i nan))
+field-held xs us i p = each-held xs us i (subst (λ (ys : List Float). shadow (each Float (f32-field .row .own) ys us)) (map-id xs) p)

@@ -1,0 +1,107 @@
+-- Demand 3, proved: the tick's mirror law and its law of ranges, carried over the whole list of ticks by one induction each. Assumes nothing.
+use Prim.Native.Nat.{_+_, ℕ}
+use denote.Index.{place}
+use lib.Dec.{T}
+use mathlib.Core.Bool.{Bool}
+use mathlib.Core.List.{List, [], _∷_, map}
+use mathlib.Core.Path.{_∙_, _≡_, ap, ap₂, refl}
+use Rattle.airframe.proofs.Mirror.{reflect-airframe, refused-place-is}
+use Rattle.airframe.specs.Acceptance.{refusedPlace}
+use Rattle.airframe.specs.Reflection.{AirframeRel, reflectAirframe}
+use Rattle.airframe.specs.declared.Airframe.{Airframe}
+use Rattle.answers.specs.Answers.{numberOf, placeOf}
+use Rattle.answers.specs.declared.Answer.{Answer}
+use Rattle.flight.proofs.Mirror.{outside-is, reflect-flight, reflect-tick}
+use Rattle.flight.specs.Envelope.{outsideOf}
+use Rattle.flight.specs.Reflection.{FlightRel, TickRel, reflectFlight, reflectTick}
+use Rattle.flight.specs.declared.Flight.{Flight}
+use Rattle.flight.specs.declared.Tick.{Tick}
+use Rattle.wing.proofs.Mirror.{tick-mirror}
+use Rattle.wing.proofs.Range.{accepted-running, tick-keeps}
+use Rattle.wing.specs.Reflection.{TickedRel}
+use Rattle.wing.specs.Running.{Held, Running, Still}
+use Rattle.wing.specs.Tick.{tickOf}
+use Rattle.wing.specs.declared.Ticked.{Ticked}
+use Rattle.run.specs.Mirrored.{Agree, All, Each, InRange, Mirrored, Ranges, all-more, all-none, each-more, each-none}
+use Rattle.run.specs.Run.{Progress, callsOf, oneIfDone, progressed, runFrom, runOf}
+
+-- ---- the ticks of a reflected list
+ticks-mirror : (ts : List Tick) → Each TickRel ts (map reflectTick ts)
+ticks-mirror [] = each-none
+ticks-mirror (t ∷ ts) = each-more (reflect-tick t) (ticks-mirror ts)
+
+-- ---- one tick
+agree : {k k' : Ticked} → TickedRel k k' → Agree k k'
+agree h = record {
+  answer = ap numberOf (h .report .answer);
+  place = ap placeOf (h .report .answer);
+  alpha = h .report .alpha;
+  thrust = h .report .thrust;
+  beta = h .report .beta;
+  state = h .flight;
+}
+
+-- ---- the whole list, for airframes, states and lists of ticks that are each other's reflections number for number
+pub calls-mirror : {a a' : Airframe} {f f' : Flight} {ts ts' : List Tick} → AirframeRel a a' → FlightRel f f' → Each TickRel ts ts' → Each Agree (callsOf a f ts) (callsOf a' f' ts')
+unfolding callsOf
+calls-mirror h k each-none = each-none
+calls-mirror h k (each-more w ws) = let r = tick-mirror h k w in each-more (agree r) (calls-mirror h (r .flight) ws)
+
+-- progress that is mirrored
+record ProgressRel (p p' : Progress) : Type 0 where
+  flight : FlightRel (p .flight) (p' .flight)
+  accepted : p' .accepted ≡ p .accepted
+
+progressed-mirror : {a a' : Airframe} {p p' : Progress} {t t' : Tick} → AirframeRel a a' → ProgressRel p p' → TickRel t t' → ProgressRel (progressed a p t) (progressed a' p' t')
+unfolding progressed
+progressed-mirror h k w = let r = tick-mirror h (k .flight) w in record { flight = r .flight; accepted = ap₂ (λ (n : ℕ) (x : Answer). n + oneIfDone x) (k .accepted) (r .report .answer) }
+
+run-from-mirror : {a a' : Airframe} {p p' : Progress} {ts ts' : List Tick} → AirframeRel a a' → ProgressRel p p' → Each TickRel ts ts' → ProgressRel (runFrom a p ts) (runFrom a' p' ts')
+unfolding runFrom
+run-from-mirror h k each-none = k
+run-from-mirror h k (each-more w ws) = run-from-mirror h (progressed-mirror h k w) ws
+
+pub run-mirror : {a a' : Airframe} {f f' : Flight} {ts ts' : List Tick} → AirframeRel a a' → FlightRel f f' → Each TickRel ts ts'
+    → FlightRel (runOf a f ts .flight) (runOf a' f' ts' .flight) × (runOf a' f' ts' .accepted ≡ runOf a f ts .accepted)
+unfolding runOf
+run-mirror h k ws = let r = run-from-mirror h (record { flight = k; accepted = refl }) ws in (r .flight, r .accepted)
+
+-- ---- the ranges
+in-range : (used : List Bool) (start f : Flight) → Running f → Still used start f → InRange used start f
+in-range used start f r s = record { motor = λ k l u. r .motor k l; surface = λ k l. r .servo k l; unused = λ k l u. s .motor k l u }
+
+still-more : {used : List Bool} {start f g : Flight} → Still used start f → Still used f g → Still used start g
+still-more s t = record { motor = λ k l u. t .motor k l u ∙ s .motor k l u }
+
+ranges-from : (a : Airframe) (start f : Flight) (ts : List Tick) → refusedPlace a ≡ 0 → Held f → Running f → Still (a .used) start f → All (λ (k : Ticked). InRange (a .used) start (k .flight)) (callsOf a f ts)
+unfolding callsOf
+ranges-from a start f [] e g r s = all-none
+ranges-from a start f (t ∷ ts) e g r s =
+    let k = tick-keeps a f t e g r in
+    let u = still-more s (k .still) in
+    all-more (in-range (a .used) start (tickOf a f t .flight) (k .running) u) (ranges-from a start (tickOf a f t .flight) ts e (k .held) (k .running) u)
+
+pub ranges : (a : Airframe) (s : Flight) (ts : List Tick) → refusedPlace a ≡ 0 → outsideOf s ≡ 0 → Held s → Ranges a s ts
+ranges a s ts e o g =
+    let r = accepted-running s o in
+    let still : Still (a .used) s s = record { motor = λ k l u. refl } in
+    record { at-start = in-range (a .used) s s r still; after-each = ranges-from a s s ts e g r still }
+
+-- ---- demand 3. `Held s` is what the type of a state tells: its motors' running values are 32-bit floats
+pub mirrored : (a : Airframe) (s : Flight) (ts : List Tick) → refusedPlace a ≡ 0 → outsideOf s ≡ 0 → Held s → Mirrored a s ts
+mirrored a s ts e o g =
+    let A = reflect-airframe a in
+    let S = reflect-flight s in
+    let T = ticks-mirror ts in
+    let r = run-mirror A S T in
+    record {
+      each-tick = calls-mirror A S T;
+      at-start = S;
+      at-end = r .0;
+      count = r .1;
+      ranges = ranges a s ts e o g;
+      ranges-reflected = ranges (reflectAirframe a) (reflectFlight s) (map reflectTick ts) (refused-place-is A ∙ e) (outside-is S ∙ o) (held-reflected s g);
+    }
+  where
+    held-reflected : (s : Flight) → Held s → Held (reflectFlight s)
+    held-reflected s g = unfold reflectFlight in record { motor = g .motor }
