@@ -1,0 +1,2 @@
+-- The proved cases. Definitions only.
+pub mod Table

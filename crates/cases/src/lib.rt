@@ -1,0 +1,1 @@
+// The cases of 01's "Flown by hand" that are marked P: one table, proved once (specs/Table.antt, proofs/Computed.antt). No code.
