@@ -1,2 +1,3 @@
 -- Laws of the airframe block.
 pub mod Filling
+pub mod Small

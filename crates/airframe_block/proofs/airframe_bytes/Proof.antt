@@ -1,6 +1,7 @@
 -- `airframe_block::airframe_bytes` meets its contract. Assumes nothing.
 use mathlib.Core.Path.{_∙_, ap}
 use borrow.Author.Needs.{needs}
+use Rattle.airframe_block.proofs.Small.{small-header}
 use Rattle.airframe_block.specs.Block.{bytesOf}
 use Rattle.airframe_block.proofs.airframe_bytes.Statement.{statement}
 use Rattle.airframe_block.proofs.airframe_bytes.Tie as tie
@@ -9,7 +10,7 @@ header-of-requires : tie.Need-header-of-requires
 header-of-requires c κs = search needs
 
 bytes-requires : tie.Need-bytes-requires
-bytes-requires c κs = ?
+bytes-requires c κs = small-header _ _ _ (c .header-of .ensures)
 
 returns : tie.Need-returns
 returns c = c .bytes .ensures ∙ ap bytesOf (c .before .header-of .ensures)

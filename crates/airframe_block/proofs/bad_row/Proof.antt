@@ -1,7 +1,8 @@
 -- `airframe_block::bad_row` meets its contract. Assumes nothing.
 use Prim.Native.Nat.{_-_, _≤_}
-use mathlib.Core.Path.{_≡_}
+use mathlib.Core.Path.{_∙_, _≡_, ap, sym}
 use borrow.Author.Needs.{needs}
+use Rattle.float.proofs.Ordered.{fail-end, fail-here, fail-next, not-false, not-true}
 use Rattle.float.specs.Ordered.{firstFail}
 use Rattle.airframe_block.proofs.Filling.{from-start}
 use Rattle.airframe_block.specs.Block.{badRow, rowFitsAt}
@@ -34,7 +35,9 @@ add-result c = search needs
 
 returns : tie.Need-returns Inv-loop μ-loop
 unfolding badRow rowFitsAt
-returns c = ?
+returns c =
+    let s = c .before .before .before .before in
+    sym (ap (firstFail _ 0) (sym (s .before .live .ensures .0)) ∙ s .loop .inv .2 ∙ fail-here _ (s .loop .k) _ (c .before .before .before .loop-test .taken) (sym (c .before .row-fits .ensures) ∙ not-true (c .if1 .taken)))
 
 add-k : tie.Need-add-k Inv-loop μ-loop
 add-k c = search needs
@@ -44,11 +47,15 @@ loop-less c = search needs
 
 loop-again : tie.Need-loop-again Inv-loop μ-loop
 unfolding rowFitsAt
-loop-again c = ?
+loop-again c =
+    let s = c .before .before .before .before in
+    (search needs, search needs, s .loop .inv .2 ∙ fail-next _ (s .loop .k) _ (c .before .before .before .loop-test .taken) (sym (c .before .row-fits .ensures) ∙ not-false (c .if1 .left)))
 
 returns-2 : tie.Need-returns-2 Inv-loop μ-loop
 unfolding badRow
-returns-2 c = ?
+returns-2 c =
+    let s = c .before in
+    sym (ap (firstFail _ 0) (sym (s .before .live .ensures .0)) ∙ s .loop .inv .2 ∙ fail-end _ (s .loop .k) _ (c .loop-test .left))
 
 pub bad-row-spec : {M : Type 1} → statement M
 bad-row-spec =

@@ -1,6 +1,6 @@
 -- `airframe_block::read_numbers` meets its contract. Assumes nothing.
 use Prim.Native.Nat.{_-_, _≤_}
-use lib.Ieee.{nan}
+use lib.Ieee.{nan, ofBits}
 use lib.ListN.{getD-replicate}
 use mathlib.Core.Path.{_∙_}
 use native.Mathlib.Omega.{arith}
@@ -51,7 +51,7 @@ loop-again c =
     (reach-more 48 nan _ _ (s .loop .xs) (s .loop .k) (c .read .result) (c .read .ensures ∙ simp (lt-ltb _ _ t)) (omega (arith, t)) (s .loop .inv .0), search needs)
 
 returns : tie.Need-returns Inv-loop μ-loop
-unfolding numbersFrom numberFrom
+unfolding numbersFrom numberFrom ofBits
 returns c =
     let s = c .before in
     reach-end 48 nan _ _ (s .loop .xs) (s .loop .k) (s .loop .inv .0) (λ k l m. getD-replicate 48 k nought nan m ∙ simp (le-ltb k _ (omega (arith, l, c .loop-test .left))))

@@ -1,5 +1,6 @@
 -- `airframe_block::read_rows` meets its contract. Assumes nothing.
 use Prim.Native.Nat.{_-_, _≤_}
+use lib.Ieee.{ofBits}
 use lib.ListN.{getD-replicate}
 use mathlib.Core.Path.{_∙_}
 use native.Mathlib.Omega.{arith}
@@ -49,7 +50,7 @@ loop-again c =
     (reach-more 16 noRow _ _ (s .loop .rows) (s .loop .k) (c .read-row .result) (c .read-row .ensures ∙ simp (lt-ltb _ _ t)) (omega (arith, t)) (s .loop .inv .0), search needs)
 
 returns : tie.Need-returns Inv-loop μ-loop
-unfolding rowsFrom rowOr
+unfolding rowsFrom rowOr ofBits
 returns c =
     let s = c .before in
     rw (reach-end 16 noRow _ _ (s .loop .rows) (s .loop .k) (s .loop .inv .0) (λ k l m. getD-replicate 16 k emptyRow noRow m ∙ simp (le-ltb k _ (omega (arith, l, c .loop-test .left)))))

@@ -2,7 +2,8 @@
 use Prim.Native.Nat.{_-_, _≤_}
 use mathlib.Core.Path.{_∙_, _≡_, sym}
 use borrow.Author.Needs.{needs}
-use Rattle.float.proofs.Ordered.{fail-end}
+use borrow.Author.Tests.{eq-eqb, ne-eqb}
+use Rattle.float.proofs.Ordered.{fail-end, fail-here, fail-next}
 use Rattle.float.specs.Ordered.{firstFail}
 use Rattle.airframe_block.proofs.Filling.{from-start}
 use Rattle.airframe_block.specs.Block.{reservedRow, rowClear}
@@ -32,7 +33,9 @@ add-result c = search needs
 
 returns : tie.Need-returns Inv-loop μ-loop
 unfolding reservedRow rowClear
-returns c = ?
+returns c =
+    let s = c .before .before .before in
+    sym (s .loop .inv .1 ∙ fail-here _ (s .loop .k) _ (c .before .before .loop-test .taken) (ne-eqb _ _ (c .if1 .taken)))
 
 add-k : tie.Need-add-k Inv-loop μ-loop
 add-k c = search needs
@@ -42,7 +45,9 @@ loop-less c = search needs
 
 loop-again : tie.Need-loop-again Inv-loop μ-loop
 unfolding rowClear
-loop-again c = ?
+loop-again c =
+    let s = c .before .before .before in
+    (search needs, s .loop .inv .1 ∙ fail-next _ (s .loop .k) _ (c .before .before .loop-test .taken) (eq-eqb _ _ (c .if1 .left)))
 
 returns-2 : tie.Need-returns-2 Inv-loop μ-loop
 unfolding reservedRow

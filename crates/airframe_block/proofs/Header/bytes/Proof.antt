@@ -15,7 +15,7 @@ add-result c = search needs
 
 returns : tie.Need-returns
 unfolding bytesOf
-returns c = simp (c .rows-at .ensures .0)
+returns c = simp (c .before .rows-at .ensures .0)
 
 pub bytes-spec : {M : Type 1} → statement M
 bytes-spec = tie.close (tie.spec rows-at-requires mul-result add-result returns)
