@@ -1,3 +1,4 @@
 -- Laws of runs.
 pub mod Turns
 pub mod Mirror
+pub mod Bytes

@@ -22,7 +22,7 @@ use Rattle.float.specs.Notation.{minusOne, nought, one}
 use Rattle.float.specs.Same.{Rel}
 use Rattle.mixers.specs.Slots.{at, flagAt}
 use Rattle.wing.specs.declared.Ticked.{Ticked}
-use Rattle.run.specs.Run.{callsOf, ranOf, ranOver, runOf, ticksOf}
+use Rattle.run.specs.Run.{callsOf, ranOf, reflectTrace, runOf, ticksOf}
 use Rattle.run.specs.declared.Pair.{Pair}
 
 -- two lists of one length, related element by element
@@ -64,8 +64,10 @@ pub record Mirrored (a : Airframe) (s : Flight) (ts : List Tick) : Type 0 where
   pub ranges : Ranges a s ts
   pub ranges-reflected : Ranges (reflectAirframe a) (reflectFlight s) (map reflectTick ts)
 
--- the two runs that `mirrored_pair` flies over the bytes of T are demand 2's, and where A and S are accepted and the trace is whole ticks all of demand 3 holds of them
+-- What `mirrored_pair` promises of the two runs it flies over the bytes of T: both are demand 2's, the second over the bytes with each wind east's sign bit flipped, which are the
+-- bytes of T'; and where A and S are accepted, all of demand 3 holds of them.
 pub record Flown (a : Airframe) (s : Flight) (trace : List ℕ) (r : Pair) : Type 0 where
   pub first : r .first ≡ ranOf a s trace
-  pub second : r .second ≡ ranOver (reflectAirframe a) (reflectFlight s) trace (map reflectTick (ticksOf trace))
+  pub second : r .second ≡ ranOf (reflectAirframe a) (reflectFlight s) (reflectTrace trace)
+  pub ticks : ticksOf (reflectTrace trace) ≡ map reflectTick (ticksOf trace)
   pub mirrored : refusedPlace a ≡ 0 → outsideOf s ≡ 0 → Mirrored a s (ticksOf trace)

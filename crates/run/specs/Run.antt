@@ -13,6 +13,7 @@ use Rattle.flight.specs.Reflection.{reflectTick}
 use Rattle.flight.specs.declared.Flight.{Flight}
 use Rattle.flight.specs.declared.Tick.{Tick}
 use Rattle.state_block.specs.Layout.{tickFrom}
+use Rattle.state_block.specs.Reflection.{reflectTickBytes}
 use Rattle.wing.specs.Tick.{tickOf}
 use Rattle.wing.specs.declared.Ticked.{Ticked}
 use Rattle.run.specs.declared.Ran.{Ran}
@@ -70,3 +71,11 @@ seenRan reflect a f s = ranOver a f s (map (seen reflect) (ticksOf s))
 
 unfoldable pub flewAll : Bool → Airframe → Flight → List ℕ → Ran
 flewAll reflect a f s = ended Done (runOf a f (map (seen reflect) (ticksOf s)) .flight) (runOf a f (map (seen reflect) (ticksOf s)) .accepted)
+
+-- ---- a trace reflected on its bytes: the sign bit of each tick's wind east flipped (01, "a list of ticks is reflected tick by tick")
+unfoldable pub reflectTo : List ℕ → ℕ → List ℕ
+reflectTo s zero = s
+reflectTo s (suc n) = reflectTickBytes (reflectTo s n) (80 * n)
+
+unfoldable pub reflectTrace : List ℕ → List ℕ
+reflectTrace s = reflectTo s (length s / 80)

@@ -95,3 +95,25 @@ reflect-tick-bytes s i l h =
     let p = i + 4 + 4 in
     simp
     (flip-other s p i (inl (omega arith)), flip-other s p (i + 4) (inl (omega arith)), flip-same s p (omega arith) h, flip-other s p (i + 4 + 8) (inr (omega arith)), slots-after s p (i + 16) (omega arith), slots-after s p (i + 48) (omega arith))
+
+-- ---- a tick that the flipped byte does not stand in
+module _ (s : List ℕ) (p i : ℕ) (h : (p < i) ⊎ (i + 80 ≤ p)) where
+  float-other : (j : ℕ) → i ≤ j → j + 4 ≤ i + 80 → floatAt (flipSign s p) j ≡ floatAt s j
+  float-other j a b = flip-other s p j (side h)
+    where
+      side : (p < i) ⊎ (i + 80 ≤ p) → (j + 4 ≤ p) ⊎ (p < j)
+      side (inl g) = inr (omega arith)
+      side (inr g) = inl (omega arith)
+
+  slots-other : (j : ℕ) → i ≤ j → j + 32 ≤ i + 80 → floatsFrom (flipSign s p) j ≡ floatsFrom s j
+  unfolding floatsFrom slotFrom
+  slots-other j a b = simp (at-slot 0 (omega arith), at-slot 4 (omega arith), at-slot 8 (omega arith), at-slot 12 (omega arith), at-slot 16 (omega arith), at-slot 20 (omega arith), at-slot 24 (omega arith), at-slot 28 (omega arith))
+    where
+      at-slot : (k : ℕ) → k + 4 ≤ 32 → floatAt (flipSign s p) (j + k) ≡ floatAt s (j + k)
+      at-slot k l = float-other (j + k) (omega arith) (omega arith)
+
+  pub tick-other : tickFrom (flipSign s p) i ≡ tickFrom s i
+  unfolding tickFrom vecFrom
+  tick-other =
+      simp
+      (float-other i (omega arith) (omega arith), float-other (i + 4) (omega arith) (omega arith), float-other (i + 4 + 4) (omega arith) (omega arith), float-other (i + 4 + 8) (omega arith) (omega arith), slots-other (i + 16) (omega arith) (omega arith), slots-other (i + 48) (omega arith) (omega arith))

@@ -1,5 +1,8 @@
 -- `airframe_block::placed` meets its contract. Assumes nothing.
+use mathlib.Core.Path.{_∙_, ap, ap₂}
 use borrow.Author.Needs.{needs}
+use Rattle.airframe_block.proofs.Order.{place-accepted, place-refused}
+use Rattle.airframe_block.specs.Block.{acceptedAirframe, lowestPlace, placedAirframe, testedAirframe}
 use Rattle.airframe_block.proofs.placed.Statement.{statement}
 use Rattle.airframe_block.proofs.placed.Tie as tie
 
@@ -16,10 +19,16 @@ refused-requires : tie.Need-refused-requires
 refused-requires c κs = search needs
 
 returns : tie.Need-returns
-returns c = ?
+unfolding placedAirframe
+returns c =
+    let l = c .before .before in
+    c .refused .ensures ∙ place-refused _ (l .lowest-place .result) (c .before .if1 .taken) ∙ ap (testedAirframe _) (l .lowest-place .ensures ∙ ap₂ lowestPlace (l .before .before .refused-place .ensures) (l .before .bad-row .ensures))
 
 returns-2 : tie.Need-returns-2
-returns-2 c = ?
+unfolding placedAirframe acceptedAirframe
+returns-2 c =
+    let l = c .before in
+    place-accepted _ (l .lowest-place .result) (c .if1 .left) ∙ ap (testedAirframe _) (l .lowest-place .ensures ∙ ap₂ lowestPlace (l .before .before .refused-place .ensures) (l .before .bad-row .ensures))
 
 pub placed-spec : {M : Type 1} → statement M
 placed-spec =

@@ -54,7 +54,7 @@ returns : tie.Need-returns Inv-loop μ-loop
 unfolding numbersFrom numberFrom ofBits
 returns c =
     let s = c .before in
-    reach-end 48 nan _ _ (s .loop .xs) (s .loop .k) (s .loop .inv .0) (λ k l m. getD-replicate 48 k nought nan m ∙ simp (le-ltb k _ (omega (arith, l, c .loop-test .left))))
+    reach-end 48 nan _ _ (s .loop .xs) (s .loop .k) (s .loop .inv .0) (λ k l m. getD-replicate 48 k nought nan m ∙ simp (le-ltb k (s .before .before .args .count) (omega (arith, l, c .loop-test .left))))
 
 pub read-numbers-spec : {M : Type 1} → statement M
 read-numbers-spec =

@@ -53,7 +53,7 @@ returns : tie.Need-returns Inv-loop μ-loop
 unfolding rowsFrom rowOr ofBits
 returns c =
     let s = c .before in
-    rw (reach-end 16 noRow _ _ (s .loop .rows) (s .loop .k) (s .loop .inv .0) (λ k l m. getD-replicate 16 k emptyRow noRow m ∙ simp (le-ltb k _ (omega (arith, l, c .loop-test .left)))))
+    rw (reach-end 16 noRow _ _ (s .loop .rows) (s .loop .k) (s .loop .inv .0) (λ k l m. getD-replicate 16 k emptyRow noRow m ∙ simp (le-ltb k (s .before .before .args .count) (omega (arith, l, c .loop-test .left)))))
 
 pub read-rows-spec : {M : Type 1} → statement M
 read-rows-spec =

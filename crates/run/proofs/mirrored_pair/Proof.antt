@@ -1,8 +1,15 @@
 -- `run::mirrored_pair` meets its contract. Assumes nothing.
-use mathlib.Core.Path.{_∙_, ap}
+use Prim.Native.Nat.{_<_, ℕ}
+use mathlib.Core.List.{map}
+use mathlib.Core.Path.{_∙_, _≡_, ap, sym}
+use native.Mathlib.Omega.{arith}
 use borrow.Author.Needs.{needs}
+use Rattle.airframe.specs.Reflection.{reflectAirframe}
+use Rattle.flight.specs.Reflection.{reflectFlight, reflectTick}
 use Rattle.float.proofs.Held.{field-held}
+use Rattle.float.specs.Bytes.{byteAt}
 use Rattle.wing.specs.Running.{Held}
+use Rattle.run.proofs.Bytes.{reflected-run, reflected-ticks}
 use Rattle.run.proofs.Mirror.{mirrored}
 use Rattle.run.proofs.Turns.{seen-plain, seen-reflected}
 use Rattle.run.specs.Run.{ranOf, ranOver, seenRan, ticksOf}
@@ -28,13 +35,17 @@ held c = record { motor = λ k l. field-held (c .args .f .motors) _ k (c .good .
 returns : tie.Need-returns
 unfolding seenRan ranOf
 returns c =
-    let s = c .before .before .before .before .before in
-    let a = s .args in
-    let ts = ticksOf (a .trace .now) in
+    let k = c .before .before .before .before in
+    let a = k .before .args in
+    let s = a .trace .now in
+    let ts = ticksOf s in
+    let bytes : (i : ℕ) → byteAt s i < 256 = λ i. omega (arith, k .shared-slice-known .given i) in
+    let second : c .seen-run2 .result ≡ ranOver (reflectAirframe (a .a)) (reflectFlight (a .f)) s (map reflectTick ts) = c .seen-run2 .ensures ∙ rw (c .before .before .reflected .ensures, c .before .reflected2 .ensures, seen-reflected ts) in
     record {
-      first = c .before .before .before .seen-run .ensures ∙ ap (ranOver (a .a) (a .f) (a .trace .now)) (seen-plain ts);
-      second = c .seen-run2 .ensures ∙ rw (c .before .before .reflected .ensures, c .before .reflected2 .ensures, seen-reflected ts);
-      mirrored = λ e o. mirrored (a .a) (a .f) ts e o (held s);
+      first = c .before .before .before .seen-run .ensures ∙ ap (ranOver (a .a) (a .f) s) (seen-plain ts);
+      second = second ∙ sym (reflected-run (reflectAirframe (a .a)) (reflectFlight (a .f)) s bytes);
+      ticks = reflected-ticks s bytes;
+      mirrored = λ e o. mirrored (a .a) (a .f) ts e o (held (k .before));
     }
 
 pub mirrored-pair-spec : {M : Type 1} → statement M

@@ -1,0 +1,114 @@
+-- What reading an airframe block can give (01, "What the bench replies"): a refusal, with the airframe of zeros, or an accepted airframe. And an absent wash is all zeros.
+-- Assumes nothing.
+use Prim.Native.Nat.{ℕ}
+use borrow.Author.Tests.{eqb-true}
+use lib.Dec.{eqb, ltb}
+use mathlib.Core.Bool.{Bool, cond, false, true}
+use mathlib.Core.List.{List}
+use mathlib.Core.Path.{_≡_, refl}
+use native.Mathlib.Omega.{arith}
+use Rattle.airframe.specs.Acceptance.{refusedPlace}
+use Rattle.airframe.specs.Numbers.{zeroAirframe, zeroWash}
+use Rattle.airframe.specs.declared.Airframe.{Airframe}
+use Rattle.answers.specs.declared.Answer.{Answer}
+use Rattle.answers.specs.declared.Answer.the-variants.{Done, NumberOutOfRange, ReservedBit, TooManyRows, WrongFalloff, WrongLength, WrongVersion}
+use Rattle.float.specs.Bytes.{byteAt}
+use Rattle.mixers.specs.declared.Rows.{Rows}
+use Rattle.airframe_block.specs.Block.{acceptedAirframe, badRow, headerOf, listFrom, listOf, lowestPlace, numberCount, numberFrom, numbersFrom, placedAirframe, readAirframeOf, readBody, readBy, readRows, refusedAirframe, testedAirframe, washOf}
+use Rattle.airframe_block.specs.declared.AirframeRead.{AirframeRead}
+use Rattle.airframe_block.specs.declared.Header.{Header}
+
+-- a read is a refusal or the acceptance of an airframe that no place refuses
+pub data Outcome : AirframeRead → Type 0 where
+  refusal : (a : Answer) → (a ≡ Done → ⊥) → Outcome (refusedAirframe a)
+  acceptance : (a : Airframe) → refusedPlace a ≡ 0 → Outcome (acceptedAirframe a)
+
+either : (t : Bool) (x y : AirframeRead) → Outcome x → Outcome y → Outcome (cond t x y)
+either true x y a b = a
+either false x y a b = b
+
+-- where no place is named, none is refused
+no-place : (p b : ℕ) → lowestPlace p b ≡ 0 → p ≡ 0
+unfolding lowestPlace
+no-place p b e = by-bad (eqb b 0) (eqb p 0) refl e
+  where
+    by-bad : (t u : Bool) → eqb p 0 ≡ u → cond t p (cond u 49 (cond (ltb p 49) p 49)) ≡ 0 → p ≡ 0
+    by-bad true u q e = e
+    by-bad false true q e = eqb-true p 0 q
+    by-bad false false q e = by-size (ltb p 49) e
+      where
+        by-size : (v : Bool) → cond v p 49 ≡ 0 → p ≡ 0
+        by-size true e = e
+        by-size false e = absurd (none e)
+          where
+            none : _≡_ {A = ℕ} 49 0 → ⊥
+            none e = omega arith
+
+placed-outcome : (a : Airframe) (rows : Rows) → Outcome (placedAirframe a rows)
+unfolding placedAirframe testedAirframe
+placed-outcome a rows = go (eqb p 0) refl
+  where
+    abbrev p : ℕ
+    p = lowestPlace (refusedPlace a) (badRow rows)
+
+    go : (t : Bool) → eqb p 0 ≡ t → Outcome (cond t (acceptedAirframe a) (refusedAirframe (NumberOutOfRange p)))
+    go true e = acceptance a (no-place (refusedPlace a) (badRow rows) (eqb-true p 0 e))
+    go false e = refusal (NumberOutOfRange p) (λ q. differ q)
+      where
+        differ : NumberOutOfRange p ≡ Done → ⊥
+        differ q = let z : _≡_ {A = ℕ} 0 1 = cc in omega arith
+
+not-length : WrongLength ≡ Done → ⊥
+not-length q = let z : _≡_ {A = ℕ} 0 1 = cc in omega arith
+
+not-version : WrongVersion ≡ Done → ⊥
+not-version q = let z : _≡_ {A = ℕ} 0 1 = cc in omega arith
+
+not-falloff : WrongFalloff ≡ Done → ⊥
+not-falloff q = let z : _≡_ {A = ℕ} 0 1 = cc in omega arith
+
+not-reserved : ReservedBit ≡ Done → ⊥
+not-reserved q = let z : _≡_ {A = ℕ} 0 1 = cc in omega arith
+
+not-rows : TooManyRows ≡ Done → ⊥
+not-rows q = let z : _≡_ {A = ℕ} 0 1 = cc in omega arith
+
+body-outcome : (s : List ℕ) (h : Header) → Outcome (readBody s h)
+unfolding readBody readRows
+body-outcome s h = either _ _ _ (placed-outcome _ _) (refusal ReservedBit not-reserved)
+
+by-outcome : (s : List ℕ) (h : Header) → Outcome (readBy s h)
+unfolding readBy
+by-outcome s h =
+    either _ _ _ (refusal WrongVersion not-version)
+    (either _ _ _ (refusal WrongFalloff not-falloff)
+    (either _ _ _ (refusal ReservedBit not-reserved)
+    (either _ _ _ (refusal TooManyRows not-rows)
+    (either _ _ _ (refusal WrongLength not-length) (body-outcome s h)))))
+
+pub read-outcome : (s : List ℕ) → Outcome (readAirframeOf s)
+unfolding readAirframeOf
+read-outcome s = either _ _ _ (refusal WrongLength not-length) (by-outcome s (headerOf (byteAt s 0) (byteAt s 1)))
+
+accepted-of : (r : AirframeRead) → Outcome r → r .answer ≡ Done → refusedPlace (r .airframe) ≡ 0
+unfolding refusedAirframe acceptedAirframe
+accepted-of r (refusal a n) e = absurd (n e)
+accepted-of r (acceptance a p) e = p
+
+-- an airframe that a read accepts is accepted by the tick
+pub accepted-is-accepted : (s : List ℕ) → readAirframeOf s .answer ≡ Done → refusedPlace (readAirframeOf s .airframe) ≡ 0
+accepted-is-accepted s e = accepted-of (readAirframeOf s) (read-outcome s) e
+
+refused-of : (r : AirframeRead) → Outcome r → (r .answer ≡ Done → ⊥) → r .airframe ≡ zeroAirframe
+unfolding refusedAirframe acceptedAirframe
+refused-of r (refusal a n) e = refl
+refused-of r (acceptance a p) e = absurd (e refl)
+
+-- a refused read gives the airframe of zeros
+pub refused-is-zero : (s : List ℕ) → (readAirframeOf s .answer ≡ Done → ⊥) → readAirframeOf s .airframe ≡ zeroAirframe
+refused-is-zero s e = refused-of (readAirframeOf s) (read-outcome s) e
+
+-- "absent wash is all zeros" (01, module 5)
+pub absent-wash : (s : List ℕ) (h : Header) → h .wash ≡ 0 → washOf (numbersFrom s (numberCount h)) ≡ zeroWash
+unfolding washOf numbersFrom numberCount listOf listFrom numberFrom zeroWash
+absent-wash s h e = simp e
