@@ -3,7 +3,8 @@
 use Prim.Native.Nat.{ℕ}
 use borrow.Author.Tests.{eqb-true}
 use lib.Dec.{eqb, ltb}
-use mathlib.Core.Bool.{Bool, cond, false, true}
+use lib.ListN.{length}
+use mathlib.Core.Bool.{Bool, cond, false, not, true}
 use mathlib.Core.List.{List}
 use mathlib.Core.Path.{_≡_, refl}
 use native.Mathlib.Omega.{arith}
@@ -14,7 +15,7 @@ use Rattle.answers.specs.declared.Answer.{Answer}
 use Rattle.answers.specs.declared.Answer.the-variants.{Done, NumberOutOfRange, ReservedBit, TooManyRows, WrongFalloff, WrongLength, WrongVersion}
 use Rattle.float.specs.Bytes.{byteAt}
 use Rattle.mixers.specs.declared.Rows.{Rows}
-use Rattle.airframe_block.specs.Block.{acceptedAirframe, badRow, headerOf, listFrom, listOf, lowestPlace, numberCount, numberFrom, numbersFrom, placedAirframe, readAirframeOf, readBody, readBy, readRows, refusedAirframe, testedAirframe, washOf}
+use Rattle.airframe_block.specs.Block.{acceptedAirframe, airframeBy, badRow, bytesOf, headerOf, listFrom, listOf, lowestPlace, numberCount, numberFrom, numbersFrom, placedAirframe, readAirframeOf, readBody, readBy, readRows, refusedAirframe, reservedRow, rowsAt, rowsFrom, testedAirframe, washOf}
 use Rattle.airframe_block.specs.declared.AirframeRead.{AirframeRead}
 use Rattle.airframe_block.specs.declared.Header.{Header}
 
@@ -44,19 +45,20 @@ no-place p b e = by-bad (eqb b 0) (eqb p 0) refl e
             none : _≡_ {A = ℕ} 49 0 → ⊥
             none e = omega arith
 
-placed-outcome : (a : Airframe) (rows : Rows) → Outcome (placedAirframe a rows)
-unfolding placedAirframe testedAirframe
-placed-outcome a rows = go (eqb p 0) refl
-  where
-    abbrev p : ℕ
-    p = lowestPlace (refusedPlace a) (badRow rows)
+no-reply : (p : ℕ) → NumberOutOfRange p ≡ Done → ⊥
+no-reply p q = let z : _≡_ {A = ℕ} 0 1 = cc in omega arith
 
+tested-outcome : (a : Airframe) (p : ℕ) → (p ≡ 0 → refusedPlace a ≡ 0) → Outcome (testedAirframe a p)
+unfolding testedAirframe
+tested-outcome a p h = go (eqb p 0) refl
+  where
     go : (t : Bool) → eqb p 0 ≡ t → Outcome (cond t (acceptedAirframe a) (refusedAirframe (NumberOutOfRange p)))
-    go true e = acceptance a (no-place (refusedPlace a) (badRow rows) (eqb-true p 0 e))
-    go false e = refusal (NumberOutOfRange p) (λ q. differ q)
-      where
-        differ : NumberOutOfRange p ≡ Done → ⊥
-        differ q = let z : _≡_ {A = ℕ} 0 1 = cc in omega arith
+    go true e = acceptance a (h (eqb-true p 0 e))
+    go false e = refusal (NumberOutOfRange p) (no-reply p)
+
+placed-outcome : (a : Airframe) (rows : Rows) → Outcome (placedAirframe a rows)
+unfolding placedAirframe
+placed-outcome a rows = tested-outcome a (lowestPlace (refusedPlace a) (badRow rows)) (no-place (refusedPlace a) (badRow rows))
 
 not-length : WrongLength ≡ Done → ⊥
 not-length q = let z : _≡_ {A = ℕ} 0 1 = cc in omega arith
@@ -73,22 +75,27 @@ not-reserved q = let z : _≡_ {A = ℕ} 0 1 = cc in omega arith
 not-rows : TooManyRows ≡ Done → ⊥
 not-rows q = let z : _≡_ {A = ℕ} 0 1 = cc in omega arith
 
+-- the tests from each on
+rows-outcome : (s : List ℕ) (h : Header) (rows : Rows) → Outcome (readRows s h rows)
+unfolding readRows
+rows-outcome s h rows = placed-outcome (airframeBy (numbersFrom s (numberCount h)) h rows) rows
+
 body-outcome : (s : List ℕ) (h : Header) → Outcome (readBody s h)
-unfolding readBody readRows
-body-outcome s h = either _ _ _ (placed-outcome _ _) (refusal ReservedBit not-reserved)
+unfolding readBody
+body-outcome s h = either (eqb (reservedRow s (rowsAt h) (h .rows)) 0) _ _ (rows-outcome s h (rowsFrom s (rowsAt h) (h .rows))) (refusal ReservedBit not-reserved)
 
 by-outcome : (s : List ℕ) (h : Header) → Outcome (readBy s h)
 unfolding readBy
 by-outcome s h =
-    either _ _ _ (refusal WrongVersion not-version)
-    (either _ _ _ (refusal WrongFalloff not-falloff)
-    (either _ _ _ (refusal ReservedBit not-reserved)
-    (either _ _ _ (refusal TooManyRows not-rows)
-    (either _ _ _ (refusal WrongLength not-length) (body-outcome s h)))))
+    either (not (eqb (h .version) 1)) _ _ (refusal WrongVersion not-version)
+    (either (ltb 1 (h .kind)) _ _ (refusal WrongFalloff not-falloff)
+    (either (not (eqb (h .reserved) 0)) _ _ (refusal ReservedBit not-reserved)
+    (either (ltb 16 (h .rows)) _ _ (refusal TooManyRows not-rows)
+    (either (not (eqb (length s) (bytesOf h))) _ _ (refusal WrongLength not-length) (body-outcome s h)))))
 
 pub read-outcome : (s : List ℕ) → Outcome (readAirframeOf s)
 unfolding readAirframeOf
-read-outcome s = either _ _ _ (refusal WrongLength not-length) (by-outcome s (headerOf (byteAt s 0) (byteAt s 1)))
+read-outcome s = either (ltb (length s) 2) _ _ (refusal WrongLength not-length) (by-outcome s (headerOf (byteAt s 0) (byteAt s 1)))
 
 accepted-of : (r : AirframeRead) → Outcome r → r .answer ≡ Done → refusedPlace (r .airframe) ≡ 0
 unfolding refusedAirframe acceptedAirframe

@@ -1,6 +1,5 @@
 -- The airframe block (01, "Blocks", "Airframe"): what its bits and bytes say, and what reading it gives. A block's bytes are a list of numbers below 256. Definitions only.
 use Prim.Native.Nat.{_%_, _*_, _+_, _-_, _/_, suc, zero, ℕ}
-use denote.Index.{row}
 use lib.Dec.{eqb, ltb}
 use lib.Ieee.{Float, eq}
 use lib.ListN.{getD, length}
@@ -171,7 +170,7 @@ unfoldable pub factorFits : Float → Bool
 factorFits x = cond (eq x nought) true (inside (rounded 1 100) (rounded 10 1) (sizeOf x))
 
 unfoldable pub rowFits : MixRow → Bool
-rowFits row = cond (factorFits (row .roll)) (cond (factorFits (row .pitch)) (factorFits (row .yaw)) false) false
+rowFits r = cond (factorFits (r .roll)) (cond (factorFits (r .pitch)) (factorFits (r .yaw)) false) false
 
 unfoldable pub rowFitsAt : List MixRow → ℕ → Bool
 rowFitsAt rows k = rowFits (getD rows k noRow)

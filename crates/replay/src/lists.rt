@@ -1,6 +1,7 @@
 // The lists, and what answers each.
 ghost use Prim.Native.Nat.{_≤_};
 use crate::elementary;
+use crate::modules;
 
 pub enum List {
     Sqrtf,
@@ -9,6 +10,14 @@ pub enum List {
     Cosf,
     Asinf,
     Atan2f,
+    LagFactor,
+    ApproachSaturated,
+    FalloffShare,
+    StallBlend,
+    PropWash,
+    Rotate,
+    BodyStep,
+    Wrench,
 }
 
 // Puts the answers to the inputs at the start of w into out, and says how many there are.
@@ -22,5 +31,13 @@ pub fn answers(list: List, w: &[u32; 192], inputs: usize, out: &mut [u32; 64]) -
         List::Cosf => elementary::cosf(w, inputs, out),
         List::Asinf => elementary::asinf(w, inputs, out),
         List::Atan2f => elementary::atan2f(w, inputs, out),
+        List::LagFactor => modules::lag_factor(w, inputs, out),
+        List::ApproachSaturated => modules::approach_saturated(w, inputs, out),
+        List::FalloffShare => modules::falloff_share(w, inputs, out),
+        List::StallBlend => modules::stall_blend(w, inputs, out),
+        List::PropWash => modules::wash(w, inputs, out),
+        List::Rotate => modules::rotate(w, inputs, out),
+        List::BodyStep => modules::body_step(w, inputs, out),
+        List::Wrench => modules::wrench(w, inputs, out),
     }
 }

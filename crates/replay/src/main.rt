@@ -4,6 +4,8 @@ mod cases;
 mod elementary;
 mod lines;
 mod lists;
+mod modules;
+mod numbers;
 mod report;
 mod source;
 mod words;
@@ -59,4 +61,27 @@ fn main() {
     run(b"cosf", b"cosf.txt", List::Cosf, &mut buf);
     run(b"asinf", b"asinf.txt", List::Asinf, &mut buf);
     run(b"atan2f", b"atan2f.txt", List::Atan2f, &mut buf);
+    run(b"lag_factor", b"lag_factor.txt", List::LagFactor, &mut buf);
+    run(
+        b"approach_saturated",
+        b"approach_saturated.txt",
+        List::ApproachSaturated,
+        &mut buf,
+    );
+    run(
+        b"falloff_share",
+        b"falloff_share.txt",
+        List::FalloffShare,
+        &mut buf,
+    );
+    run(
+        b"stall_blend",
+        b"stall_blend.txt",
+        List::StallBlend,
+        &mut buf,
+    );
+    run(b"wash", b"wash.txt", List::PropWash, &mut buf);
+    run(b"rotate", b"rotate.txt", List::Rotate, &mut buf);
+    run(b"body_step", b"body_step.txt", List::BodyStep, &mut buf);
+    run(b"wrench", b"wrench.txt", List::Wrench, &mut buf);
 }
