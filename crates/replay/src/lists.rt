@@ -1,5 +1,6 @@
 // The lists, and what answers each.
 ghost use Prim.Native.Nat.{_≤_};
+use crate::actuators;
 use crate::elementary;
 use crate::modules;
 
@@ -18,6 +19,9 @@ pub enum List {
     Rotate,
     BodyStep,
     Wrench,
+    Motors,
+    MotorRows,
+    Surfaces,
 }
 
 // Puts the answers to the inputs at the start of w into out, and says how many there are.
@@ -39,5 +43,8 @@ pub fn answers(list: List, w: &[u32; 192], inputs: usize, out: &mut [u32; 64]) -
         List::Rotate => modules::rotate(w, inputs, out),
         List::BodyStep => modules::body_step(w, inputs, out),
         List::Wrench => modules::wrench(w, inputs, out),
+        List::Motors => actuators::motors(w, inputs, out),
+        List::MotorRows => actuators::motor_rows(w, inputs, out),
+        List::Surfaces => actuators::surfaces(w, inputs, out),
     }
 }

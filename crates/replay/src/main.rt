@@ -1,5 +1,6 @@
 // Replays the lists of inputs and answers that are the files beside it, and counts the cases where the
 // crates' answers differ from the lists'.
+mod actuators;
 mod cases;
 mod elementary;
 mod lines;
@@ -84,4 +85,7 @@ fn main() {
     run(b"rotate", b"rotate.txt", List::Rotate, &mut buf);
     run(b"body_step", b"body_step.txt", List::BodyStep, &mut buf);
     run(b"wrench", b"wrench.txt", List::Wrench, &mut buf);
+    run(b"motors", b"motors.txt", List::Motors, &mut buf);
+    run(b"motor_rows", b"motor_rows.txt", List::MotorRows, &mut buf);
+    run(b"surfaces", b"surfaces.txt", List::Surfaces, &mut buf);
 }

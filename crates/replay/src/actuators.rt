@@ -1,0 +1,197 @@
+// The lists of the motors and the surfaces.
+ghost use mathlib.Core.Path.{_≡_};
+ghost use Prim.Native.Nat.{_+_, _≤_};
+use crate::modules;
+use crate::numbers;
+use mixers::MixRow;
+use mixers::Rows;
+use mixers::Slot;
+use motors::MotorLayout;
+use motors::Motors;
+use surfaces::Surfaces;
+use vector::Vec3;
+
+// 8 vectors from word i on.
+fn vectors(w: &[u32; 192], i: usize) -> [Vec3; 8]
+    requires { ⌜ i + 24 ≤ 192 ⌝ }
+{
+    [
+        numbers::vec(w, i),
+        numbers::vec(w, i + 3),
+        numbers::vec(w, i + 6),
+        numbers::vec(w, i + 9),
+        numbers::vec(w, i + 12),
+        numbers::vec(w, i + 15),
+        numbers::vec(w, i + 18),
+        numbers::vec(w, i + 21),
+    ]
+}
+
+fn put_vectors(out: &mut [u32; 64], i: usize, vs: [Vec3; 8])
+    requires { ⌜ i + 24 ≤ 64 ⌝ }
+{
+    numbers::put_vec(out, i, vs[0]);
+    numbers::put_vec(out, i + 3, vs[1]);
+    numbers::put_vec(out, i + 6, vs[2]);
+    numbers::put_vec(out, i + 9, vs[3]);
+    numbers::put_vec(out, i + 12, vs[4]);
+    numbers::put_vec(out, i + 15, vs[5]);
+    numbers::put_vec(out, i + 18, vs[6]);
+    numbers::put_vec(out, i + 21, vs[7]);
+}
+
+// 8 flags, each a word that is 0 or 1.
+fn flags(w: &[u32; 192]) -> [bool; 8] {
+    [
+        w[5] != 0,
+        w[6] != 0,
+        w[7] != 0,
+        w[8] != 0,
+        w[9] != 0,
+        w[10] != 0,
+        w[11] != 0,
+        w[12] != 0,
+    ]
+}
+
+pub fn motors(w: &[u32; 192], inputs: usize, out: &mut [u32; 64]) -> usize
+    ensures { λ n. ⌜ n ≤ 64 ⌝ }
+{
+    if inputs != 53 {
+        return 0;
+    }
+    let falloff = modules::falloff(w[0], numbers::number(w, 1));
+    let used = flags(w);
+    let torque_per_thrust_m = vectors(w, 13);
+    let running = numbers::eight(w, 37);
+    let commands = numbers::eight(w, 45);
+    let group = Motors {
+        max_thrust_n: numbers::number(w, 2),
+        thrust_exponent: 2.0,
+        used,
+        torque_per_thrust_m,
+        running,
+    };
+    let spun = group.spin(commands, numbers::number(w, 4));
+    let pull = spun.wrench_with(falloff, numbers::number(w, 3));
+    let after = spun.running;
+    numbers::put_eight(out, 0, after);
+    numbers::put(out, 8, pull.thrust_n);
+    numbers::put_vec(out, 9, pull.torque_nm);
+    12
+}
+
+// The row of the five words from i on: kind, slot, roll, pitch, yaw.
+fn row(w: &[u32; 192], i: usize) -> MixRow
+    requires { ⌜ i + 5 ≤ 192 ⌝ }
+{
+    let slot = slot_of(w[i], w[i + 1]);
+    MixRow {
+        slot,
+        roll: numbers::number(w, i + 2),
+        pitch: numbers::number(w, i + 3),
+        yaw: numbers::number(w, i + 4),
+    }
+}
+
+fn wide(n: u32) -> usize
+    ensures { λ r. ⌜ r ≡ n ⌝ }
+{
+    n as usize
+}
+
+fn slot_of(kind: u32, index: u32) -> Slot {
+    if kind == 0 {
+        return Slot::Motor((index % 8) as u8);
+    }
+    Slot::Servo((index % 8) as u8)
+}
+
+// `count` rows from word `at` on.
+fn rows(w: &[u32; 192], at: usize, count: usize) -> Rows
+    requires { ⌜ at ≤ 8 ⌝ }
+    requires { ⌜ count ≤ 16 ⌝ }
+{
+    let mut list = [MixRow {
+        slot: Slot::Motor(0),
+        roll: 0.0,
+        pitch: 0.0,
+        yaw: 0.0,
+    }; 16];
+    let mut i = 0usize;
+    while i < count {
+        list[i] = row(w, at + 5 * i);
+        i += 1;
+    }
+    Rows { rows: list, count }
+}
+
+pub fn motor_rows(w: &[u32; 192], inputs: usize, out: &mut [u32; 64]) -> usize
+    ensures { λ n. ⌜ n ≤ 64 ⌝ }
+{
+    let count = wide(w[2]);
+    if count > 16 {
+        return 0;
+    }
+    if inputs != 3 + 5 * count {
+        return 0;
+    }
+    let layout = MotorLayout {
+        moment_arm_m: numbers::number(w, 0),
+        yaw_torque_per_thrust_m: numbers::number(w, 1),
+        max_thrust_n: 1.0,
+        thrust_exponent: 2.0,
+    };
+    let group = Motors::new(rows(w, 3, count), layout);
+    let used = group.used;
+    let torques = group.torque_per_thrust_m;
+    put_flags(out, used);
+    put_vectors(out, 8, torques);
+    32
+}
+
+fn put_flags(out: &mut [u32; 64], used: [bool; 8]) {
+    out[0] = flag(used[0]);
+    out[1] = flag(used[1]);
+    out[2] = flag(used[2]);
+    out[3] = flag(used[3]);
+    out[4] = flag(used[4]);
+    out[5] = flag(used[5]);
+    out[6] = flag(used[6]);
+    out[7] = flag(used[7]);
+}
+
+fn flag(used: bool) -> u32 {
+    if used { 1 } else { 0 }
+}
+
+pub fn surfaces(w: &[u32; 192], inputs: usize, out: &mut [u32; 64]) -> usize
+    ensures { λ n. ⌜ n ≤ 64 ⌝ }
+{
+    let count = wide(w[0]);
+    if count > 16 {
+        return 0;
+    }
+    let at = 1 + 5 * count;
+    if inputs != at + 20 {
+        return 0;
+    }
+    moved(w, at, Surfaces::new(rows(w, 1, count)), out)
+}
+
+// The surfaces' weights, their positions after a step from those at word i, and their deflections.
+fn moved(w: &[u32; 192], i: usize, made: Surfaces, out: &mut [u32; 64]) -> usize
+    requires { ⌜ i ≤ 100 ⌝ }
+    ensures { λ n. ⌜ n ≤ 64 ⌝ }
+{
+    let weights = made.weights;
+    let running = numbers::eight(w, i);
+    let commands = numbers::eight(w, i + 8);
+    let at = Surfaces { weights, running };
+    let after = at.move_to(commands, numbers::number(w, i + 16));
+    let positions = after.running;
+    put_vectors(out, 0, weights);
+    numbers::put_eight(out, 24, positions);
+    numbers::put_vec(out, 32, after.deflection_rad(numbers::vec(w, i + 17)));
+    35
+}
