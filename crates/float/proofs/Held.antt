@@ -1,14 +1,14 @@
 -- What owning an array of 32-bit floats tells: the format holds each element, and a NaN stands past its end. Assumes nothing.
-use mathlib.Core.Path.{_≡_, sym, subst}
-use mathlib.Core.List.{List, [], _∷_, map, map-id}
-use Prim.Native.Nat.{ℕ, zero, suc}
-use lib.Dec.{T}
-use lib.ListN.{getD}
-use lib.Ieee.{Float, nan, binary32, fits}
-use mir.Val.{Val}
-use denote.Shadow.{shadow}
+use Prim.Native.Nat.{suc, zero, ℕ}
 use denote.Array.{each}
+use denote.Shadow.{shadow}
 use denote.Struct.Field.{f32-field}
+use lib.Dec.{T}
+use lib.Ieee.{Float, binary32, fits, nan}
+use lib.ListN.{getD}
+use mathlib.Core.List.{List, [], _∷_, map, map-id}
+use mathlib.Core.Path.{subst, sym}
+use mir.Val.{Val}
 
 each-held : (xs : List Float) (us : List Val) (i : ℕ) → shadow (each Float (f32-field .row .own) xs us) → T (fits binary32 (getD xs i nan))
 unfolding fits

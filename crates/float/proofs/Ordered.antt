@@ -59,10 +59,10 @@ pub all-pass : (ok : ℕ → Bool) (n : ℕ) → firstFail ok 0 n ≡ 0 → (k :
 all-pass ok n e k l = sym (ap ok (zero-add k)) ∙ all-hold ok 0 n e k l
 
 -- ---- where each holds, none fails
-pub none-fails : (ok : ℕ → Bool) (i n : ℕ) → ((k : ℕ) → ok k ≡ true) → firstFail ok i n ≡ 0
+pub none-fails : (ok : ℕ → Bool) (i n : ℕ) → ((k : ℕ) → k < i + n → ok k ≡ true) → firstFail ok i n ≡ 0
 unfolding firstFail
 none-fails ok i zero h = refl
-none-fails ok i (suc n) h = rw (h i) (none-fails ok (suc i) n h)
+none-fails ok i (suc n) h = rw (h i (omega arith)) (none-fails ok (suc i) n (λ k l. h k (omega (arith, l))))
 
 -- ---- equal tests
 pub fail-same : {ok ok' : ℕ → Bool} (i n : ℕ) → ((k : ℕ) → ok' k ≡ ok k) → firstFail ok' i n ≡ firstFail ok i n

@@ -6,16 +6,17 @@ use lib.Ieee.{Float, binary32, fits, nan}
 use mathlib.Core.Bool.{Bool, cond, false, true}
 use mathlib.Core.List.{[]}
 use mathlib.Core.Path.{_∙_, _≡_, refl, subst, sym}
+use native.Mathlib.Omega.{arith}
 use Rattle.airframe.proofs.Range.{motor-constant-in, servo-constant-in}
 use Rattle.airframe.specs.Acceptance.{refusedPlace}
 use Rattle.airframe.specs.declared.Airframe.{Airframe}
 use Rattle.answers.specs.declared.Answer.{Answer}
 use Rattle.answers.specs.declared.Answer.the-variants.{Departure, NumberOutOfRange, StateOutside, StepOutside}
 use Rattle.flight.proofs.Range.{motor-within, servo-within}
-use Rattle.flight.specs.Envelope.{isInside, outsideOf}
+use Rattle.flight.specs.Envelope.{isInside, outsideOf, slotInside, slotsOutside}
 use Rattle.flight.specs.declared.Flight.{Flight}
 use Rattle.flight.specs.declared.Tick.{Tick}
-use Rattle.float.proofs.Ordered.{inside-within}
+use Rattle.float.proofs.Ordered.{inside-within, none-fails, within-inside}
 use Rattle.float.specs.Interval.{Within, inside}
 use Rattle.float.specs.Notation.{minusOne, nought, one}
 use Rattle.lag.proofs.Range.{factor-in}
@@ -55,6 +56,11 @@ module _ (a : Airframe) (f : Flight) (t : Tick) where
   pub next-held : Held f → Held (nextOf a f t .flight)
   unfolding motorsFor
   next-held g = record { motor = λ k l. subst (λ (x : Float). T (fits binary32 x)) (sym (next-motor a f t k l)) (spin-fits (motorsFor a f) (t .motors) _ k (g .motor k l)) }
+
+-- so the tests of the running values, the envelope's last, pass: 9 never fires on one
+pub running-inside : (f : Flight) → Running f → (slotsOutside nought one (f .motors) ≡ 0) × (slotsOutside minusOne one (f .servos) ≡ 0)
+unfolding slotsOutside slotInside
+running-inside f r = (none-fails _ 0 8 (λ k l. within-inside (r .motor k (omega (arith, l)))), none-fails _ 0 8 (λ k l. within-inside (r .servo k (omega (arith, l)))))
 
 -- ---- a tick, refused or not
 pub record Keeps (a : Airframe) (f : Flight) (r : Ticked) : Type 0 where
