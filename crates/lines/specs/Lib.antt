@@ -1,0 +1,2 @@
+-- What the lines' text says.
+pub mod Glyph

@@ -1,0 +1,78 @@
+// A tick's line: index, answer, and the state's first 13 numbers.
+ghost use mathlib.Core.Path.{_≡_};
+ghost use Prim.Native.Nat.{_+_, _≤_};
+use crate::digits;
+use answers::Answer;
+use flight::Flight;
+use vector::Quaternion;
+use vector::Vec3;
+
+fn wide(n: u32) -> u64 {
+    n as u64
+}
+
+fn put_vec(out: &mut [u8; 65536], at: usize, v: Vec3) -> usize
+    requires { ⌜ at + 27 ≤ 65536 ⌝ }
+    ensures { λ r. ⌜ r ≡ at + 27 ⌝ }
+{
+    let y = digits::put_word(out, at, v.x);
+    let z = digits::put_word(out, y, v.y);
+    digits::put_word(out, z, v.z)
+}
+
+fn put_attitude(out: &mut [u8; 65536], at: usize, q: Quaternion) -> usize
+    requires { ⌜ at + 36 ≤ 65536 ⌝ }
+    ensures { λ r. ⌜ r ≡ at + 36 ⌝ }
+{
+    let i = digits::put_word(out, at, q.w);
+    let j = digits::put_word(out, i, q.i);
+    let k = digits::put_word(out, j, q.j);
+    digits::put_word(out, k, q.k)
+}
+
+// Puts the state's position, velocity, attitude and rates at `at`.
+fn put_state(out: &mut [u8; 65536], at: usize, f: Flight) -> usize
+    requires { ⌜ at + 117 ≤ 65536 ⌝ }
+    ensures { λ r. ⌜ r ≡ at + 117 ⌝ }
+{
+    let velocity = put_vec(out, at, f.position_ned_m);
+    let attitude = put_vec(out, velocity, f.velocity_ned_mps);
+    let rates = put_attitude(out, attitude, f.attitude);
+    put_vec(out, rates, f.angular_velocity_radps)
+}
+
+// Puts what follows a line's index at `at`.
+fn put_rest(out: &mut [u8; 65536], at: usize, answer: Answer, f: Flight) -> usize
+    requires { ⌜ at + 139 ≤ 65536 ⌝ }
+    ensures { λ r. ⌜ r ≤ at + 139 ⌝ }
+{
+    let number = digits::put_byte(out, at, b' ');
+    let state = digits::put_decimal(out, number, wide(answer.number()));
+    let end = put_state(out, state, f);
+    digits::put_byte(out, end, b'\n')
+}
+
+// Puts the line of the tick `index`, its answer and the state handed back, at `at`.
+pub fn put_line(out: &mut [u8; 65536], at: usize, index: u64, answer: Answer, f: Flight) -> usize
+    requires { ⌜ at + 160 ≤ 65536 ⌝ }
+    ensures { λ r. ⌜ r ≤ at + 160 ⌝ }
+{
+    let rest = digits::put_decimal(out, at, index);
+    put_rest(out, rest, answer, f)
+}
+
+// The same with a mark behind the index, for the flight's reflection.
+pub fn put_mirrored_line(
+    out: &mut [u8; 65536],
+    at: usize,
+    index: u64,
+    answer: Answer,
+    f: Flight,
+) -> usize
+    requires { ⌜ at + 160 ≤ 65536 ⌝ }
+    ensures { λ r. ⌜ r ≤ at + 160 ⌝ }
+{
+    let mark = digits::put_decimal(out, at, index);
+    let rest = digits::put_byte(out, mark, b'\'');
+    put_rest(out, rest, answer, f)
+}

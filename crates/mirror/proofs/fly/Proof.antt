@@ -1,0 +1,70 @@
+-- `mirror::fly` meets its contract. Assumes nothing.
+use Prim.Native.Nat.{_≤_}
+use borrow.Author.Needs.{needs}
+use Rattle.mirror.proofs.fly.Statement.{statement}
+use Rattle.mirror.proofs.fly.Tie as tie
+
+abbrev Inv-loop : tie.InvT-loop
+Inv-loop a ticks₀ out₀ p₀ turns₀ ticks out p turns = p .at ≤ 65536
+
+abbrev μ-loop : tie.MeasureT-loop
+μ-loop a ticks₀ out₀ p₀ turns₀ ticks out p turns = turns
+
+large-buffer-requires : tie.Need-large-buffer-requires Inv-loop μ-loop
+large-buffer-requires c κs = search needs
+
+large-buffer-requires-2 : tie.Need-large-buffer-requires-2 Inv-loop μ-loop
+large-buffer-requires-2 c κs = search needs
+
+start-requires : tie.Need-start-requires Inv-loop μ-loop
+start-requires c κs = search needs
+
+loop-holds : tie.Need-loop-holds Inv-loop μ-loop
+loop-holds c = search needs
+
+read-ticks-requires : tie.Need-read-ticks-requires Inv-loop μ-loop
+read-ticks-requires c κs = search needs
+
+fly-some-requires : tie.Need-fly-some-requires Inv-loop μ-loop
+fly-some-requires c κs = search needs
+
+ended-requires : tie.Need-ended-requires Inv-loop μ-loop
+ended-requires c κs = search needs
+
+summary-requires : tie.Need-summary-requires Inv-loop μ-loop
+summary-requires c κs = search needs
+
+returns : tie.Need-returns Inv-loop μ-loop
+returns c = search needs
+
+sub-turns : tie.Need-sub-turns Inv-loop μ-loop
+sub-turns c = search needs
+
+loop-less : tie.Need-loop-less Inv-loop μ-loop
+loop-less c = search needs
+
+loop-again : tie.Need-loop-again Inv-loop μ-loop
+loop-again c = search needs
+
+returns-2 : tie.Need-returns-2 Inv-loop μ-loop
+returns-2 c = search needs
+
+pub fly-spec : {M : Type 1} → statement M
+fly-spec =
+    tie.close
+    (tie.spec
+    Inv-loop
+    μ-loop
+    large-buffer-requires
+    large-buffer-requires-2
+    start-requires
+    loop-holds
+    read-ticks-requires
+    fly-some-requires
+    ended-requires
+    summary-requires
+    returns
+    sub-turns
+    loop-less
+    loop-again
+    returns-2)

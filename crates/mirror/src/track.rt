@@ -1,0 +1,127 @@
+// A flight and its reflection, tick by tick.
+ghost use Prim.Native.Nat.{_≤_, _+_};
+use crate::compare;
+use airframe::Airframe;
+use answers::Answer;
+use flight::Flight;
+use flight::Tick;
+use wing::Ticked;
+
+// The two states after the ticks flown, how many they were, how many of them each flight accepted, the first that does not mirror
+// (0 for none), and where the next line stands on the page.
+pub struct Track {
+    pub first: Flight,
+    pub second: Flight,
+    pub ticks: u64,
+    pub accepted: u64,
+    pub accepted_mirrored: u64,
+    pub differs: u64,
+    pub at: usize,
+}
+
+pub fn start(f: Flight) -> Track
+    ensures { λ r. ⌜ r .at ≤ 65536 ⌝ }
+{
+    let second = f.reflected();
+    Track {
+        first: f,
+        second,
+        ticks: 0,
+        accepted: 0,
+        accepted_mirrored: 0,
+        differs: 0,
+        at: 0,
+    }
+}
+
+// One more where the answer is 0.
+fn counted(count: u64, answer: Answer) -> u64 {
+    if answer.number() == 0 {
+        return std::num::wrapping_add_u64(count, 1);
+    }
+    count
+}
+
+// The first tick that does not mirror, this one being `index`.
+fn first_unlike(differs: u64, index: u64, x: Ticked, y: Ticked) -> u64 {
+    if differs != 0 {
+        return differs;
+    }
+    if compare::is_mirrored(x, y) {
+        return 0;
+    }
+    index
+}
+
+// Puts the lines of the tick `index` on the page.
+fn put_both(out: &mut [u8; 65536], at: usize, index: u64, x: Ticked, y: Ticked) -> usize
+    requires { ⌜ at ≤ 65536 ⌝ }
+    ensures { λ r. ⌜ r ≤ 65536 ⌝ }
+{
+    let ours = x.report;
+    let theirs = y.report;
+    let answer = ours.answer;
+    let mirrored_answer = theirs.answer;
+    let line = lines::with_room(out, at);
+    let mirrored_line = lines::put_line(out, line, index, answer, x.flight);
+    lines::put_mirrored_line(out, mirrored_line, index, mirrored_answer, y.flight)
+}
+
+// The tracks after the tick that gave x, and y in the reflection; its lines are on the page up to `at`.
+fn after(p: Track, x: Ticked, y: Ticked, at: usize) -> Track
+    requires { ⌜ at ≤ 65536 ⌝ }
+    ensures { λ r. ⌜ r .at ≤ 65536 ⌝ }
+{
+    let ticks = std::num::wrapping_add_u64(p.ticks, 1);
+    let differs = first_unlike(p.differs, ticks, x, y);
+    let ours = x.report;
+    let theirs = y.report;
+    let answer = ours.answer;
+    let mirrored_answer = theirs.answer;
+    let accepted = counted(p.accepted, answer);
+    let accepted_mirrored = counted(p.accepted_mirrored, mirrored_answer);
+    let first = x.flight;
+    let second = y.flight;
+    Track {
+        first,
+        second,
+        ticks,
+        accepted,
+        accepted_mirrored,
+        differs,
+        at,
+    }
+}
+
+// Flies one tick and its reflection.
+fn fly_one(a: Airframe, p: Track, t: Tick, out: &mut [u8; 65536]) -> Track
+    requires { ⌜ p .at ≤ 65536 ⌝ }
+    ensures { λ r. ⌜ r .at ≤ 65536 ⌝ }
+{
+    let x = wing::tick(a, p.first, t);
+    let y = wing::tick(a.reflected(), p.second, t.reflected());
+    let index = std::num::wrapping_add_u64(p.ticks, 1);
+    let at = put_both(out, p.at, index, x, y);
+    after(p, x, y, at)
+}
+
+// Flies the whole ticks among the first n bytes of `ticks`.
+pub fn fly_some(
+    a: Airframe,
+    p: Track,
+    ticks: &[u8; 65536],
+    n: usize,
+    out: &mut [u8; 65536],
+) -> Track
+    requires { ⌜ n ≤ 65536 ⌝ ∗ ⌜ p .at ≤ 65536 ⌝ }
+    ensures { λ r. ⌜ r .at ≤ 65536 ⌝ }
+{
+    let count = n / 80;
+    let mut pair = p;
+    let mut i = 0;
+    while i < count {
+        pair = fly_one(a, pair, state_block::read_tick(ticks, 80 * i), out);
+        i += 1;
+    }
+    pair
+}
