@@ -4,7 +4,7 @@ ghost use Prim.Native.Nat.{_+_, _≤_};
 ghost use lib.Ieee as Ieee;
 ghost use lib.Ieee.{binary32};
 ghost use Rattle.float.specs.Same.{num};
-use crate::lines;
+use crate::line_words;
 use crate::lists;
 use crate::lists::List;
 use crate::report;
@@ -61,7 +61,7 @@ fn replay(list: List, s: &[u8], t: Tally) -> Tally
 {
     let mut w = [0u32; 192];
     let mut out = [0u32; 64];
-    let l = lines::read(s, &mut w);
+    let l = line_words::read(s, &mut w);
     let n = lists::answers(list, &w, l.inputs, &mut out);
     let cases = std::num::wrapping_add_u64(t.cases, 1);
     if is_right(&w, l.inputs, l.count, &out, n) {

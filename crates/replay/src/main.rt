@@ -3,7 +3,8 @@
 mod actuators;
 mod cases;
 mod elementary;
-mod lines;
+mod flights;
+mod line_words;
 mod lists;
 mod modules;
 mod numbers;

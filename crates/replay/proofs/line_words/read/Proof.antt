@@ -1,9 +1,9 @@
--- `replay::lines::read` meets its contract. Assumes nothing.
+-- `replay::line_words::read` meets its contract. Assumes nothing.
 use Prim.Native.Nat.{_-_, _≤_}
 use borrow.Author.Needs.{needs}
 use lib.ListN.{length}
-use Rattle.replay.proofs.lines.read.Statement.{statement}
-use Rattle.replay.proofs.lines.read.Tie as tie
+use Rattle.replay.proofs.line_words.read.Statement.{statement}
+use Rattle.replay.proofs.line_words.read.Tie as tie
 
 abbrev Inv-loop : tie.InvT-loop
 Inv-loop s w₀ l₀ w l = (l .inputs ≤ l .count) × (l .count ≤ 192)

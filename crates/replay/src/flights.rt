@@ -1,0 +1,189 @@
+// The list of whole flights: after `< ` the input of fly in hex, then the lines that fly prints for it, each after `> `.
+ghost use mathlib.Core.Path.{_≡_};
+ghost use Prim.Native.Nat.{_+_, _≤_, _<_};
+ghost use lib.ListN.{length};
+use crate::cases::Tally;
+use crate::words;
+use airframe::Airframe;
+use airframe_block::AirframeRead;
+use answers::Answer;
+use flight::Flight;
+use flight::Tick;
+use state_block::StateRead;
+
+// What fly prints for the flight at hand stands in the first `end` bytes of a page; those before `at` were found in the list, and
+// `same` says whether all lines so far were.
+pub struct Page {
+    pub at: usize,
+    pub end: usize,
+    pub same: bool,
+}
+
+fn byte(n: u32) -> u8 {
+    (n % 256) as u8
+}
+
+fn least(a: usize, b: usize) -> usize
+    ensures { λ r. ⌜ r ≤ a ⌝ ∗ ⌜ r ≤ b ⌝ }
+{
+    if a < b { a } else { b }
+}
+
+// Puts the bytes that the hex digits from `from` to `to` of the line spell at the start of `bytes`, as far as there is room, and
+// answers how many they are.
+fn decode(line: &[u8; 65536], from: usize, to: usize, bytes: &mut [u8; 4096]) -> usize
+    requires { ⌜ from ≤ to ⌝ ∗ ⌜ to ≤ 65536 ⌝ }
+    ensures { λ r. ⌜ r ≤ 4096 ⌝ }
+{
+    let n = least((to - from) / 2, 4096);
+    let mut i = 0usize;
+    while i < n {
+        bytes[i] = byte(words::pair(line, from + 2 * i));
+        i += 1;
+    }
+    n
+}
+
+fn airframe_in(bytes: &[u8], end: usize) -> AirframeRead
+    requires { ⌜ end ≤ length (now bytes) ⌝ }
+{
+    airframe_block::read_airframe(&bytes[..end])
+}
+
+fn state_in(bytes: &[u8], from: usize, end: usize) -> StateRead
+    requires { ⌜ from ≤ end ⌝ ∗ ⌜ end ≤ length (now bytes) ⌝ }
+{
+    state_block::read_state(&bytes[from..end])
+}
+
+// A decimal of at most two digits.
+fn put_decimal(out: &mut [u8; 65536], at: usize, n: u32) -> usize
+    requires { ⌜ at + 2 ≤ 65536 ⌝ }
+    ensures { λ r. ⌜ r ≤ at + 2 ⌝ }
+{
+    if n < 10 {
+        out[at] = byte(48 + n % 10);
+        return at + 1;
+    }
+    out[at] = byte(48 + n / 10 % 10);
+    out[at + 1] = byte(48 + n % 10);
+    at + 2
+}
+
+// A refused read's line: 0, its answer and its place.
+fn refused(out: &mut [u8; 65536], at: usize, answer: Answer) -> usize
+    requires { ⌜ at + 16 ≤ 65536 ⌝ }
+    ensures { λ r. ⌜ r ≤ at + 16 ⌝ }
+{
+    out[at] = b'0';
+    out[at + 1] = b' ';
+    let a = put_decimal(out, at + 2, answer.number());
+    out[a] = b' ';
+    let b = put_decimal(out, a + 1, answer.place());
+    out[b] = b'\n';
+    b + 1
+}
+
+// The lines of the ticks from byte `from` on of the first n bytes, at most 51 of them.
+fn flown(
+    a: Airframe,
+    f: Flight,
+    bytes: &[u8],
+    from: usize,
+    n: usize,
+    out: &mut [u8; 65536],
+) -> usize
+    requires { ⌜ from ≤ n ⌝ ∗ ⌜ n ≤ 4096 ⌝ ∗ ⌜ n ≤ length (now bytes) ⌝ }
+    ensures { λ r. ⌜ r ≤ 65536 ⌝ }
+{
+    let count = (n - from) / 80;
+    let mut flight = f;
+    let mut at = 0usize;
+    let mut i = 0usize;
+    while i < count {
+        let t = state_block::read_tick(bytes, from + 80 * i);
+        let done = wing::tick(a, flight, t);
+        let report = done.report;
+        flight = done.flight;
+        let answer = report.answer;
+        at = lines::put_line(out, at, (i + 1) as u64, answer, flight);
+        i += 1;
+    }
+    if (n - from) % 80 != 0 {
+        return refused(out, at, Answer::WrongLength);
+    }
+    at
+}
+
+// What fly prints for the first n bytes, of which the airframe is the first `to`.
+fn after_airframe(a: Airframe, bytes: &[u8], to: usize, n: usize, out: &mut [u8; 65536]) -> usize
+    requires { ⌜ to ≤ n ⌝ ∗ ⌜ n ≤ 4096 ⌝ ∗ ⌜ n ≤ length (now bytes) ⌝ }
+    ensures { λ r. ⌜ r ≤ 65536 ⌝ }
+{
+    let from = least(to + 116, n);
+    if from < to {
+        return 0;
+    }
+    let s = state_in(bytes, to, from);
+    let answer = s.answer;
+    if answer.number() != 0 {
+        return refused(out, 0, answer);
+    }
+    flown(a, s.flight, bytes, from, n, out)
+}
+
+// What fly prints for the first n bytes.
+fn printed(bytes: &[u8; 4096], n: usize, out: &mut [u8; 65536]) -> usize
+    requires { ⌜ n ≤ 4096 ⌝ }
+    ensures { λ r. ⌜ r ≤ 65536 ⌝ }
+{
+    let head = airframe_in(bytes, least(2, n));
+    let answer = head.answer;
+    if n < 2 {
+        return refused(out, 0, answer);
+    }
+    if answer.number() != 1 {
+        return refused(out, 0, answer);
+    }
+    let to = least(airframe_block::airframe_bytes(bytes[0], bytes[1]), n);
+    let whole = airframe_in(bytes, to);
+    let answer = whole.answer;
+    if answer.number() != 0 {
+        return refused(out, 0, answer);
+    }
+    after_airframe(whole.airframe, bytes, to, n, out)
+}
+
+// Whether the line's bytes from `from` to `to` and a newline stand at `at` of the page.
+fn found(line: &[u8; 65536], from: usize, to: usize, out: &[u8; 65536], at: usize) -> bool
+    requires { ⌜ from ≤ to ⌝ ∗ ⌜ to ≤ 65536 ⌝ ∗ ⌜ at ≤ 65536 ⌝ }
+{
+    if 65536 - at <= to - from {
+        return false;
+    }
+    let mut i = 0usize;
+    while i < to - from {
+        if line[from + i] != out[at + i] {
+            return false;
+        }
+        i += 1;
+    }
+    out[at + (to - from)] == b'\n'
+}
+
+// One more flight, and whether all its lines were found and none was left.
+fn counted(t: Tally, p: Page) -> Tally {
+    let cases = std::num::wrapping_add_u64(t.cases, 1);
+    if p.same {
+        if p.at == p.end {
+            return Tally {
+                cases,
+                differ: t.differ,
+            };
+        }
+    }
+    Tally {
+        cases,
+        differ: std::num::wrapping_add_u64(t.differ, 1),
+    }
+}
