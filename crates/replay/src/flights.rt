@@ -187,3 +187,116 @@ fn counted(t: Tally, p: Page) -> Tally {
         differ: std::num::wrapping_add_u64(t.differ, 1),
     }
 }
+
+// The flights so far, and the page of the one at hand, where there is one.
+pub struct Walk {
+    pub tally: Tally,
+    pub page: Page,
+    pub begun: bool,
+}
+
+pub fn begin() -> Walk
+    ensures { λ r. ⌜ r .page .at ≤ 65536 ⌝ }
+{
+    let tally = Tally {
+        cases: 0,
+        differ: 0,
+    };
+    let page = Page {
+        at: 0,
+        end: 0,
+        same: true,
+    };
+    Walk {
+        tally,
+        page,
+        begun: false,
+    }
+}
+
+// The flights with the one at hand.
+pub fn tally(w: Walk) -> Tally {
+    let t = w.tally;
+    let p = w.page;
+    if w.begun {
+        return counted(t, p);
+    }
+    t
+}
+
+// An input's line: the flight before it is counted, and this one's lines are put on the page.
+fn input(
+    w: Walk,
+    line: &[u8; 65536],
+    from: usize,
+    to: usize,
+    bytes: &mut [u8; 4096],
+    out: &mut [u8; 65536],
+) -> Walk
+    requires { ⌜ from ≤ to ⌝ ∗ ⌜ to ≤ 65536 ⌝ }
+    ensures { λ r. ⌜ r .page .at ≤ 65536 ⌝ }
+{
+    let n = decode(line, from, to, bytes);
+    let end = printed(bytes, n, out);
+    let tally = tally(w);
+    let page = Page {
+        at: 0,
+        end,
+        same: true,
+    };
+    Walk {
+        tally,
+        page,
+        begun: true,
+    }
+}
+
+// A printed line: it has to be the page's next.
+fn output(w: Walk, line: &[u8; 65536], from: usize, to: usize, out: &[u8; 65536]) -> Walk
+    requires { ⌜ from ≤ to ⌝ ∗ ⌜ to ≤ 65536 ⌝ ∗ ⌜ w .page .at ≤ 65536 ⌝ }
+    ensures { λ r. ⌜ r .page .at ≤ 65536 ⌝ }
+{
+    let p = w.page;
+    let at = p.at;
+    let tally = w.tally;
+    let same = found(line, from, to, out, at);
+    let next = least(at + (to - from) + 1, 65536);
+    let page = Page {
+        at: next,
+        end: p.end,
+        same: both(p.same, same),
+    };
+    Walk {
+        tally,
+        page,
+        begun: w.begun,
+    }
+}
+
+fn both(a: bool, b: bool) -> bool {
+    if a { b } else { false }
+}
+
+// One line of the list, from `at` to `to` of the buffer.
+pub fn take(
+    w: Walk,
+    line: &[u8; 65536],
+    at: usize,
+    to: usize,
+    bytes: &mut [u8; 4096],
+    out: &mut [u8; 65536],
+) -> Walk
+    requires { ⌜ at ≤ to ⌝ ∗ ⌜ to ≤ 65536 ⌝ ∗ ⌜ w .page .at ≤ 65536 ⌝ }
+    ensures { λ r. ⌜ r .page .at ≤ 65536 ⌝ }
+{
+    if to < at + 2 {
+        return w;
+    }
+    if line[at] == b'<' {
+        return input(w, line, at + 2, to, bytes, out);
+    }
+    if line[at] == b'>' {
+        return output(w, line, at + 2, to, out);
+    }
+    w
+}

@@ -55,6 +55,44 @@ fn run(name: &[u8], path: &[u8], list: List, buf: &mut [u8; 65536]) {
     report::counts(name, t.cases, t.differ);
 }
 
+// Replays the flights of the open file fd.
+fn replay_flights(fd: i32, buf: &mut [u8; 65536]) -> Tally {
+    let mut bytes = io::buffer();
+    let mut out = io::large_buffer();
+    let mut s = Source {
+        fd: fd,
+        at: 0,
+        end: 0,
+    };
+    let mut w = flights::begin();
+    let mut turns = u64::MAX;
+    while turns > 0 {
+        s = source::with_line(buf, s);
+        let at = s.at;
+        let end = s.end;
+        if at == end {
+            return flights::tally(w);
+        }
+        let to = source::line_end(buf, at, end);
+        w = flights::take(w, buf, at, to, &mut bytes, &mut out);
+        s = source::past(s, to);
+        turns -= 1;
+    }
+    flights::tally(w)
+}
+
+// Replays the list of flights.
+fn run_flights(buf: &mut [u8; 65536]) {
+    let fd = os::open_read(b"flights.txt");
+    if fd < 0 {
+        report::missing(b"flights");
+        return;
+    }
+    let t = replay_flights(fd, buf);
+    libc::close(fd);
+    report::counts(b"flights", t.cases, t.differ);
+}
+
 fn main() {
     let mut buf = io::large_buffer();
     run(b"sqrtf", b"sqrtf.txt", List::Sqrtf, &mut buf);
@@ -89,4 +127,5 @@ fn main() {
     run(b"motors", b"motors.txt", List::Motors, &mut buf);
     run(b"motor_rows", b"motor_rows.txt", List::MotorRows, &mut buf);
     run(b"surfaces", b"surfaces.txt", List::Surfaces, &mut buf);
+    run_flights(&mut buf);
 }

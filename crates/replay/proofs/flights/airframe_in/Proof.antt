@@ -1,10 +1,12 @@
 -- `replay::flights::airframe_in` meets its contract. Assumes nothing.
+use mathlib.Core.Path.{sym}
 use borrow.Author.Needs.{needs}
+use borrow.Table.Elements.{length-take-le}
 use Rattle.replay.proofs.flights.airframe_in.Statement.{statement}
 use Rattle.replay.proofs.flights.airframe_in.Tie as tie
 
 slice-aggregate-read-airframe : tie.Need-slice-aggregate-read-airframe
-slice-aggregate-read-airframe c = ?
+slice-aggregate-read-airframe c = sym (length-take-le (c .before .before .args .end) (c .before .before .args .bytes .now) (c .before .before .pre))
 
 read-airframe-requires : tie.Need-read-airframe-requires
 read-airframe-requires c κs = search needs
