@@ -6,6 +6,10 @@ ghost use lib.Ieee.{binary32};
 ghost use Rattle.float.specs.Same.{num};
 ghost use Rattle.lines.specs.Glyph.{glyphOf};
 
+pub fn wide(n: u32) -> u64 {
+    n as u64
+}
+
 // The bits of x as a line shows them: any zero 0, any NaN 7FC00000.
 pub fn shown(x: f32) -> u32
     ensures { λ r. ⌜ r ≡ Ieee.toBits binary32 (num x) ⌝ }

@@ -7,10 +7,6 @@ use flight::Flight;
 use vector::Quaternion;
 use vector::Vec3;
 
-fn wide(n: u32) -> u64 {
-    n as u64
-}
-
 fn put_vec(out: &mut [u8; 65536], at: usize, v: Vec3) -> usize
     requires { ⌜ at + 27 ≤ 65536 ⌝ }
     ensures { λ r. ⌜ r ≡ at + 27 ⌝ }
@@ -47,7 +43,7 @@ fn put_rest(out: &mut [u8; 65536], at: usize, answer: Answer, f: Flight) -> usiz
     ensures { λ r. ⌜ r ≤ at + 139 ⌝ }
 {
     let number = digits::put_byte(out, at, b' ');
-    let state = digits::put_decimal(out, number, wide(answer.number()));
+    let state = digits::put_decimal(out, number, digits::wide(answer.number()));
     let end = put_state(out, state, f);
     digits::put_byte(out, end, b'\n')
 }

@@ -1,11 +1,8 @@
 // Standard output through a page of lines, and the lines of refused reads.
 ghost use Prim.Native.Nat.{_+_, _≤_};
+use crate::digits;
 use answers::Answer;
 use libc::STDOUT_FILENO;
-
-fn wide(n: u32) -> u64 {
-    n as u64
-}
 
 // Writes the page's first `at` bytes.
 fn flush(out: &[u8], at: usize)
@@ -29,9 +26,9 @@ pub fn with_room(out: &[u8; 65536], at: usize) -> usize
 // The line of a refused read: 0, its answer and its place.
 pub fn refusal(answer: Answer) {
     io::write_all(STDOUT_FILENO, b"0 ");
-    io::print_decimal(STDOUT_FILENO, wide(answer.number()));
+    io::print_decimal(STDOUT_FILENO, digits::wide(answer.number()));
     io::write_all(STDOUT_FILENO, b" ");
-    io::print_decimal(STDOUT_FILENO, wide(answer.place()));
+    io::print_decimal(STDOUT_FILENO, digits::wide(answer.place()));
     io::write_all(STDOUT_FILENO, b"\n");
 }
 
