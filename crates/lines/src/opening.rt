@@ -1,5 +1,4 @@
 // What stands before the ticks on standard input, the airframe and the state; and the ticks, a buffer at a time.
-ghost use mathlib.Core.Path.{_≡_};
 ghost use Prim.Native.Nat.{_+_, _≤_};
 use airframe::Airframe;
 use airframe_block::AirframeRead;

@@ -6,7 +6,6 @@ mod track;
 
 use airframe::Airframe;
 use flight::Flight;
-use track::Track;
 
 // Flies all ticks of standard input from f, and their reflection.
 fn fly(a: Airframe, f: Flight) {

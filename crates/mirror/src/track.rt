@@ -1,5 +1,5 @@
 // A flight and its reflection, tick by tick.
-ghost use Prim.Native.Nat.{_≤_, _+_};
+ghost use Prim.Native.Nat.{_≤_};
 use crate::compare;
 use airframe::Airframe;
 use answers::Answer;
