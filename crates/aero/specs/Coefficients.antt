@@ -1,5 +1,7 @@
 -- The dimensionless coefficients (01, module 6), in the stability-derivative form of Beard and McLain, Small Unmanned Aircraft, ch. 4 (below: B&M), in the order of operations
 -- that the Rust spells. Where the Rust departs from the book, a line says so. Definitions only.
+-- The book was not at hand: its formulas stand here as they are commonly quoted, and the numbers of equations and sections are from memory, not yet held against a copy
+-- (docs/DIFFERENCES.md).
 use lib.Ieee.{Float, fin, le, lt, nan, ne, neg}
 use lib.IntN.{negsuc, pos}
 use mathlib.Core.Bool.{cond, false}

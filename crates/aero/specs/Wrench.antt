@@ -26,7 +26,7 @@ washRateScale m w density = half ⊗ density ⊗ w .«damping_mps» ⊗ m .«win
 unfoldable pub withWash : Float → Float → Float → Float
 withWash free pa area = atLeastZero (free ⊕ pa ⊗ area)
 
--- ---- rate terms, Beard and McLain, Small Unmanned Aircraft, ch. 4.2 and 4.3: ½ρV²S·b·(Clp (b/2V) p + Clr (b/2V) r), ½ρV²S·c·Cmq (c/2V) q
+-- ---- rate terms, Beard and McLain, Small Unmanned Aircraft, ch. 4.2 and 4.3 (as commonly quoted, sections from memory: docs/DIFFERENCES.md): ½ρV²S·b·(Clp (b/2V) p + Clr (b/2V) r), ½ρV²S·c·Cmq (c/2V) q
 -- departs: written per unit of airspeed, scale = ½ρVS, and not divided by it, so that they vanish smoothly with the airspeed
 unfoldable pub rateMoments : FixedWingModel → Float → Vec3 → Vec3
 rateMoments m scale rates =
