@@ -134,7 +134,8 @@ fn coefficients_of(xs: [f32; 48]) -> AeroCoefficients
     }
 }
 
-fn model_of(xs: [f32; 48], kind: u8) -> FixedWingModel
+// The model of the numbers by place and the falloff's kind.
+pub fn model_of(xs: [f32; 48], kind: u8) -> FixedWingModel
     ensures { λ r. ⌜ r ≡ Block.modelOf xs kind ⌝ }
 {
     let aero = coefficients_of(xs);
@@ -158,7 +159,8 @@ fn model_of(xs: [f32; 48], kind: u8) -> FixedWingModel
     }
 }
 
-fn wash_of(xs: [f32; 48]) -> PropWash
+// The wash of the numbers by place.
+pub fn wash_of(xs: [f32; 48]) -> PropWash
     ensures { λ r. ⌜ r ≡ Block.washOf xs ⌝ }
 {
     PropWash {

@@ -66,7 +66,7 @@ pub fn flown(a: Airframe, f: Flight, t: Tick) -> Ticked
 }
 
 // A refusal: the state as it was given, and zeros.
-fn refused(answer: Answer, f: Flight) -> Ticked
+pub fn refused(answer: Answer, f: Flight) -> Ticked
     ensures { λ r. ⌜ r ≡ TickOf.refusedOf answer f ⌝ }
 {
     let report = Report {

@@ -1,0 +1,2 @@
+-- Laws of the lengths of rows. Assumes nothing.
+pub mod Lengths

@@ -1,0 +1,27 @@
+-- `bench_c::ran_by` meets its contract. Assumes nothing.
+use mathlib.Core.Path.{_∙_, sym}
+use borrow.Author.Tests.{eq-eqb, ne-eqb}
+use Rattle.bench_c.specs.Library.{ranBy}
+use borrow.Author.Needs.{needs}
+use Rattle.bench_c.proofs.ran_by.Statement.{statement}
+use Rattle.bench_c.proofs.ran_by.Tie as tie
+
+number-requires : tie.Need-number-requires
+number-requires c κs = search needs
+
+run-requires : tie.Need-run-requires
+run-requires c κs = search needs
+
+returns : tie.Need-returns
+unfolding ranBy
+returns c = simp (c .run .ensures, eq-eqb _ _ (sym (c .before .before .number .ensures) ∙ c .before .if1 .taken))
+
+ended-requires : tie.Need-ended-requires
+ended-requires c κs = search needs
+
+returns-2 : tie.Need-returns-2
+unfolding ranBy
+returns-2 c = simp (c .ended .ensures, ne-eqb _ _ (λ e. c .before .if1 .left (c .before .before .number .ensures ∙ e)))
+
+pub ran-by-spec : {M : Type 1} → statement M
+ran-by-spec = tie.close (tie.spec number-requires run-requires returns ended-requires returns-2)

@@ -1,0 +1,28 @@
+-- `bench_c::ticked_by` meets its contract. Assumes nothing.
+use mathlib.Core.Path.{_∙_, sym}
+use borrow.Author.Tests.{eq-eqb, ne-eqb}
+use Rattle.bench_c.specs.Library.{tickedBy}
+use borrow.Author.Needs.{needs}
+use Rattle.bench_c.proofs.ticked_by.Statement.{statement}
+use Rattle.bench_c.proofs.ticked_by.Tie as tie
+
+number-requires : tie.Need-number-requires
+number-requires c κs = search needs
+
+tick-requires : tie.Need-tick-requires
+tick-requires c κs = search needs
+
+returns : tie.Need-returns
+unfolding tickedBy
+returns c = simp (c .tick .ensures, eq-eqb _ _ (sym (c .before .before .number .ensures) ∙ c .before .if1 .taken))
+
+refused-requires : tie.Need-refused-requires
+refused-requires c κs = search needs
+
+returns-2 : tie.Need-returns-2
+unfolding tickedBy
+returns-2 c = simp (c .refused .ensures, ne-eqb _ _ (λ e. c .before .if1 .left (c .before .before .number .ensures ∙ e)))
+
+pub ticked-by-spec : {M : Type 1} → statement M
+ticked-by-spec =
+    tie.close (tie.spec number-requires tick-requires returns refused-requires returns-2)

@@ -1,0 +1,2 @@
+-- What the library's calls give. Definitions only.
+pub mod Library

@@ -1,0 +1,3 @@
+-- Rows of numbers. Definitions only.
+pub mod Flight
+pub mod Airframe
