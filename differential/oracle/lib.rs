@@ -24,6 +24,7 @@ mod quadplane_model;
 
 // Document 01, read a second time.
 pub mod blocks;
+pub mod drive;
 pub mod fly;
 pub mod hand;
 pub mod limits;

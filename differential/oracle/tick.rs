@@ -78,7 +78,7 @@ fn fly_on(airframe: &Airframe, state: &State, tick: &Tick) -> (Report, State) {
 
 /// The original wing with the airframe's slots and the state's running values. `FixedWing::new`
 /// itself would lay the motors out by an arm of 0 and a yaw torque of the motor arm.
-fn wing(airframe: &Airframe, state: &State) -> FixedWing {
+pub(crate) fn wing(airframe: &Airframe, state: &State) -> FixedWing {
     let rotors = Rotors {
         motor_arm_m: airframe.at(41),
         wash: airframe.wash.map(wash),
@@ -111,7 +111,7 @@ pub(crate) fn body(state: &State) -> Body {
     }
 }
 
-fn state_after(body: &Body, wing: &mut FixedWing) -> State {
+pub(crate) fn state_after(body: &Body, wing: &mut FixedWing) -> State {
     let attitude = body.attitude;
     State {
         position: array(body.position_ned_m),
