@@ -1,7 +1,7 @@
 -- A loop over a trace's ticks: one turn, and the end. Assumes nothing.
 use Prim.Native.Nat.{_*_, _+_, _-_, _<_, _≤_, suc, ℕ}
 use lib.Dec.{eqb}
-use mathlib.Core.Bool.{Bool, false, true}
+use mathlib.Core.Bool.{Bool, cond, false, true}
 use mathlib.Core.List.{List, [], _∷_, map}
 use mathlib.Core.Path.{_∙_, _≡_, ap, ap₂, refl, sym}
 use native.Mathlib.Nat.{add-zero}
@@ -9,12 +9,16 @@ use native.Mathlib.Numerals.{add-one}
 use native.Mathlib.Omega.{arith}
 use Rattle.airframe.specs.Acceptance.{refusedPlace}
 use Rattle.airframe.specs.declared.Airframe.{Airframe}
+use Rattle.answers.specs.declared.Answer.the-variants.{Departure, StepOutside}
+use Rattle.flight.specs.Envelope.{isInside}
 use Rattle.flight.specs.Reflection.{reflectTick}
 use Rattle.flight.specs.declared.Flight.{Flight}
 use Rattle.flight.specs.declared.Tick.{Tick}
 use Rattle.float.proofs.Ordered.{some-eqb}
+use Rattle.float.specs.Interval.{inside}
+use Rattle.lag.specs.Lag.{stepLeast, stepMost}
 use Rattle.state_block.specs.Layout.{tickFrom}
-use Rattle.wing.specs.Tick.{flownOf, refusedOf, tickOf}
+use Rattle.wing.specs.Tick.{flownOf, keptOf, nextOf, refusedOf, tickOf}
 use Rattle.wing.specs.declared.Ticked.{Ticked}
 use Rattle.run.specs.Run.{Progress, oneIfDone, progressed, runFrom, seen, ticksFrom}
 
@@ -50,6 +54,30 @@ pub refused-run : (a : Airframe) (p : Progress) (ts : List Tick) → (refusedPla
 unfolding runFrom
 refused-run a p [] n = refl
 refused-run a p (t ∷ ts) n = ap (λ (q : Progress). runFrom a q ts) (refused-stays a p t (some-eqb (refusedPlace a) n)) ∙ refused-run a p ts n
+
+-- from a state outside the envelope, too
+outside-stays : (a : Airframe) (p : Progress) (t : Tick) → refusedPlace a ≡ 0 → isInside (p .flight) ≡ false → progressed a p t ≡ p
+unfolding progressed tickOf flownOf refusedOf oneIfDone
+outside-stays a p t e o = rw (e, o, add-zero)
+
+pub outside-run : (a : Airframe) (p : Progress) (ts : List Tick) → refusedPlace a ≡ 0 → isInside (p .flight) ≡ false → runFrom a p ts ≡ p
+unfolding runFrom
+outside-run a p [] e o = refl
+outside-run a p (t ∷ ts) e o = ap (λ (q : Progress). runFrom a q ts) (outside-stays a p t e o) ∙ outside-run a p ts e o
+
+-- a state inside the envelope is followed by one inside: itself, or one that passed test 9
+kept-inside : (f : Flight) (n : Ticked) (t : Bool) → isInside (n .flight) ≡ t → isInside f ≡ true → isInside (cond t n (refusedOf Departure f) .flight) ≡ true
+unfolding refusedOf
+kept-inside f n true e i = e
+kept-inside f n false e i = i
+
+pub stays-inside : (a : Airframe) (f : Flight) (t : Tick) → isInside f ≡ true → isInside (flownOf a f t .flight) ≡ true
+unfolding flownOf keptOf refusedOf
+stays-inside a f t i = rw i (go (inside stepLeast stepMost (t .«step_s»)))
+  where
+    go : (b : Bool) → isInside (cond b (cond (isInside (nextOf a f t .flight)) (nextOf a f t) (refusedOf Departure f)) (refusedOf StepOutside f) .flight) ≡ true
+    go true = kept-inside f (nextOf a f t) _ refl i
+    go false = i
 
 -- what a turn of the loop keeps is the run's progress
 pub progress : (a : Airframe) (p : Progress) (t u : Tick) (k : Ticked) (n : ℕ) → refusedPlace a ≡ 0 → u ≡ t → k ≡ flownOf a (p .flight) u → n ≡ oneIfDone (k .report .answer)

@@ -3,7 +3,9 @@ ghost use mathlib.Core.Path.{_≡_};
 ghost use Prim.Native.Nat.{_≤_, _+_, _*_};
 ghost use Rattle.state_block.specs.Layout.{tickFrom};
 ghost use lib.ListN.{length};
+ghost use mathlib.Core.Bool.{true};
 ghost use Rattle.airframe.specs.Acceptance.{refusedPlace};
+ghost use Rattle.flight.specs.Envelope.{isInside};
 ghost use Rattle.run.specs.Run as Run;
 ghost use Rattle.run.specs.Mirrored as Mirrored;
 use airframe::Airframe;
@@ -48,9 +50,11 @@ fn seen_run(a: Airframe, f: Flight, trace: &[u8], reflect: bool) -> Ran
     if trace.len() % 80 != 0 {
         return ended(Answer::WrongLength, f, 0);
     }
-    let place = a.refused_place();
-    if place == 0 {
-        return fly_all(a, f, trace, reflect);
+    if a.refused_place() == 0 {
+        if f.is_inside() {
+            return fly_all(a, f, trace, reflect);
+        }
+        return ended(Answer::Done, f, 0);
     }
     ended(Answer::Done, f, 0)
 }
@@ -65,17 +69,21 @@ fn ended(answer: Answer, flight: Flight, accepted: u64) -> Ran
     }
 }
 
-// The ticks one after the other, of an airframe that is accepted.
+// The ticks one after the other, of an airframe and a state that are accepted: neither is tested again, since each state that is
+// kept was tested as the next one.
 fn fly_all(a: Airframe, f: Flight, trace: &[u8], reflect: bool) -> Ran
-    requires { ⌜ refusedPlace a ≡ 0 ⌝ }
+    requires { ⌜ refusedPlace a ≡ 0 ⌝ ∗ ⌜ isInside f ≡ true ⌝ }
     ensures { λ r. ⌜ r ≡ Run.flewAll reflect a f (now (trace .entry)) ⌝ }
 {
     let count = trace.len() / 80;
     let mut flight = f;
+    let mut lags = wing::lags(a, 0.01);
     let mut accepted = 0u64;
     let mut i = 0usize;
     while i < count {
-        let done = wing::flown(a, flight, tick_at(trace, i, reflect));
+        let t = tick_at(trace, i, reflect);
+        lags = wing::lags_after(a, lags, t.step_s);
+        let done = wing::flown_on(a, flight, t, lags);
         let report = done.report;
         let answer = report.answer;
         accepted += one_if_done(answer);

@@ -1,3 +1,4 @@
 -- Laws of the tick.
 pub mod Range
 pub mod Mirror
+pub mod Steps

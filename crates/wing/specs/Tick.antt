@@ -1,8 +1,9 @@
 -- The tick (01, module 8 and "What the bench replies"): tests 6, 7, 8, the step, test 9. Definitions only.
 use lib.Dec.{eqb}
-use lib.Ieee.{Float}
+use lib.Ieee.{Float, binary32, ofBits, toBits}
 use mathlib.Core.Bool.{cond}
 use mathlib.Core.List.{List}
+use mathlib.Core.Path.{_≡_}
 use Rattle.airframe.specs.Acceptance.{refusedPlace}
 use Rattle.airframe.specs.declared.Airframe.{Airframe}
 use Rattle.answers.specs.declared.Answer.{Answer}
@@ -23,6 +24,7 @@ use Rattle.surfaces.specs.Surface.{moveTo}
 use Rattle.surfaces.specs.declared.Surfaces.{Surfaces}
 use Rattle.vector.specs.declared.Vec3.{Vec3}
 use Rattle.wing.specs.Loads.{bodyOf, loadsOf, motorsFor, surfacesFor}
+use Rattle.wing.specs.declared.LagFactors.{LagFactors}
 use Rattle.wing.specs.declared.Loaded.{Loaded}
 use Rattle.wing.specs.declared.Ticked.{Ticked}
 
@@ -32,6 +34,15 @@ spunOf a f commands h = spinOf (motorsFor a f) commands (factorOf h (a .model .�
 
 unfoldable pub movedOf : Airframe → Flight → List Float → Float → Surfaces
 movedOf a f commands h = moveTo (surfacesFor a f) commands (factorOf h (a .model .«servo_time_constant_s»))
+
+-- the lag factors of a step, with its bits
+unfoldable pub lagsOf : Airframe → Float → LagFactors
+lagsOf a h = record { «step_bits» = toBits binary32 h; motor = factorOf h (a .model .«motor_time_constant_s»); servo = factorOf h (a .model .«servo_time_constant_s») }
+
+-- factors that are those of the step with their bits
+pub record Kept (a : Airframe) (held : LagFactors) : Type 0 where
+  pub motor : held .motor ≡ factorOf (ofBits binary32 (held .«step_bits»)) (a .model .«motor_time_constant_s»)
+  pub servo : held .servo ≡ factorOf (ofBits binary32 (held .«step_bits»)) (a .model .«servo_time_constant_s»)
 
 -- density 1.225
 abbrev pub airDensity : Float

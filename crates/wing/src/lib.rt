@@ -1,6 +1,8 @@
 // The reference tick: the motors and surfaces through their lags, thrust along body x, the aerodynamics with the surfaces in the
 // props' wash, and the body's step, with the bench's tests around it.
+ghost use mathlib.Core.Bool.{true};
 ghost use mathlib.Core.Path.{_≡_};
+ghost use Rattle.flight.specs.Envelope.{isInside};
 ghost use Rattle.wing.specs.Loads as LoadsOf;
 ghost use Rattle.wing.specs.Tick as TickOf;
 use airframe::Airframe;
@@ -41,6 +43,13 @@ pub struct Ticked {
     pub flight: Flight,
 }
 
+// The lag factors of a step, which stay as they are while the step keeps its bits.
+pub struct LagFactors {
+    pub step_bits: u32,
+    pub motor: f32,
+    pub servo: f32,
+}
+
 // One tick from `f`: refused with 6, 7, 8 or 9, in this order, it hands back `f`.
 pub fn tick(a: Airframe, f: Flight, t: Tick) -> Ticked
     ensures { λ r. ⌜ r ≡ TickOf.tickOf a f t ⌝ }
@@ -57,12 +66,20 @@ pub fn flown(a: Airframe, f: Flight, t: Tick) -> Ticked
     ensures { λ r. ⌜ r ≡ TickOf.flownOf a f t ⌝ }
 {
     if f.is_inside() {
-        if float::inside(t.step_s, 0.0009765625, 0.02) {
-            return kept(f, next(a, f, t));
-        }
-        return refused(Answer::StepOutside, f);
+        return flown_on(a, f, t, lags(a, t.step_s));
     }
     refused(Answer::StateOutside, f)
+}
+
+// The same from a state inside the envelope, with the lag factors of the tick's step: the tests 8 and 9.
+pub fn flown_on(a: Airframe, f: Flight, t: Tick, lags: LagFactors) -> Ticked
+    requires { ⌜ isInside f ≡ true ⌝ ∗ ⌜ lags ≡ TickOf.lagsOf a (t .«step_s») ⌝ }
+    ensures { λ r. ⌜ r ≡ TickOf.flownOf a f t ⌝ }
+{
+    if float::inside(t.step_s, 0.0009765625, 0.02) {
+        return kept(f, next_by(a, f, t, lags));
+    }
+    refused(Answer::StepOutside, f)
 }
 
 // A refusal: the state as it was given, and zeros.
@@ -89,14 +106,45 @@ fn kept(f: Flight, n: Ticked) -> Ticked
     refused(Answer::Departure, f)
 }
 
+// The lag factors of a step.
+pub fn lags(a: Airframe, step_s: f32) -> LagFactors
+    ensures { λ r. ⌜ r ≡ TickOf.lagsOf a «step_s» ⌝ }
+{
+    let m = a.model;
+    LagFactors {
+        step_bits: float::to_bits(step_s),
+        motor: lag::factor(step_s, m.motor_time_constant_s),
+        servo: lag::factor(step_s, m.servo_time_constant_s),
+    }
+}
+
+// The lag factors of a step, `held` being those of the last one: a step with the same bits has the same.
+pub fn lags_after(a: Airframe, held: LagFactors, step_s: f32) -> LagFactors
+    requires { ⌜ TickOf.Kept a held ⌝ }
+    ensures { λ r. ⌜ r ≡ TickOf.lagsOf a «step_s» ⌝ ∗ ⌜ TickOf.Kept a r ⌝ }
+{
+    if float::to_bits(step_s) == held.step_bits {
+        return held;
+    }
+    lags(a, step_s)
+}
+
 // The next state and its report, whatever the tests say.
 pub fn next(a: Airframe, f: Flight, t: Tick) -> Ticked
     ensures { λ r. ⌜ r ≡ TickOf.nextOf a f t ⌝ }
 {
+    next_by(a, f, t, lags(a, t.step_s))
+}
+
+// The same with the lag factors handed in.
+fn next_by(a: Airframe, f: Flight, t: Tick, lags: LagFactors) -> Ticked
+    requires { ⌜ lags ≡ TickOf.lagsOf a (t .«step_s») ⌝ }
+    ensures { λ r. ⌜ r ≡ TickOf.nextOf a f t ⌝ }
+{
     let commands = t.motors;
     let servo_commands = t.servos;
-    let motors = spun(a, f, commands, t.step_s);
-    let surfaces = moved(a, f, servo_commands, t.step_s);
+    let motors = motors_of(a, f).spin(commands, lags.motor);
+    let surfaces = surfaces_of(a, f).move_to(servo_commands, lags.servo);
     let loaded = loads(
         a,
         motors,
@@ -108,24 +156,6 @@ pub fn next(a: Airframe, f: Flight, t: Tick) -> Ticked
     let running = motors.running;
     let positions = surfaces.running;
     stepped(a.model, f, running, positions, loaded, t.step_s)
-}
-
-// The motors after a step of their lag.
-fn spun(a: Airframe, f: Flight, commands: [f32; 8], step_s: f32) -> Motors
-    ensures { λ r. ⌜ r ≡ TickOf.spunOf a f commands «step_s» ⌝ }
-{
-    let m = a.model;
-    let factor = lag::factor(step_s, m.motor_time_constant_s);
-    motors_of(a, f).spin(commands, factor)
-}
-
-// The surfaces after a step of their lag.
-fn moved(a: Airframe, f: Flight, commands: [f32; 8], step_s: f32) -> Surfaces
-    ensures { λ r. ⌜ r ≡ TickOf.movedOf a f commands «step_s» ⌝ }
-{
-    let m = a.model;
-    let factor = lag::factor(step_s, m.servo_time_constant_s);
-    surfaces_of(a, f).move_to(commands, factor)
 }
 
 // The airframe's motors at the state's running values.

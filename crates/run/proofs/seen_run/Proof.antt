@@ -1,11 +1,13 @@
 -- `run::seen_run` meets its contract. Assumes nothing.
-use mathlib.Core.List.{map}
-use mathlib.Core.Path.{_∙_, _≡_, sym}
-use borrow.Author.Needs.{needs}
-use Rattle.airframe.specs.Acceptance.{refusedPlace}
-use Rattle.float.proofs.Ordered.{some-eqb}
-use Rattle.run.proofs.Turns.{refused-run}
 use Rattle.run.specs.Run.{flewAll, ranOver, runOf, seen, seenRan, ticksOf}
+use Rattle.run.proofs.Turns.{outside-run, refused-run}
+use Rattle.float.proofs.Ordered.{some-eqb}
+use Rattle.flight.specs.Envelope.{isInside}
+use Rattle.airframe.specs.Acceptance.{refusedPlace}
+use mathlib.Core.Path.{_∙_, _≡_, sym}
+use mathlib.Core.List.{map}
+use mathlib.Core.Bool.{false}
+use borrow.Author.Needs.{needs}
 use Rattle.run.proofs.seen_run.Statement.{statement}
 use Rattle.run.proofs.seen_run.Tie as tie
 
@@ -19,12 +21,15 @@ returns c = rw (some-eqb _ (c .before .if1 .taken)) (c .ended .ensures)
 refused-place-requires : tie.Need-refused-place-requires
 refused-place-requires c κs = search needs
 
+is-inside-requires : tie.Need-is-inside-requires
+is-inside-requires c κs = search needs
+
 fly-all-requires : tie.Need-fly-all-requires
-fly-all-requires c κs = sym (c .before .refused-place .ensures) ∙ c .if2 .taken
+fly-all-requires c κs = (sym (c .before .before .before .refused-place .ensures) ∙ c .before .before .if2 .taken, sym (c .before .is-inside .ensures) ∙ c .if3 .taken)
 
 returns-2 : tie.Need-returns-2
 unfolding seenRan ranOver flewAll
-returns-2 c = rw (c .before .before .before .if1 .left) (c .fly-all .ensures)
+returns-2 c = rw (c .before .before .before .before .before .if1 .left) (c .fly-all .ensures)
 
 ended-requires-2 : tie.Need-ended-requires-2
 ended-requires-2 c κs = search needs
@@ -32,9 +37,20 @@ ended-requires-2 c κs = search needs
 returns-3 : tie.Need-returns-3
 unfolding seenRan ranOver runOf
 returns-3 c =
+    let a = c .before .before .before .before .before .before .before .args in
+    let e : refusedPlace (a .a) ≡ 0 = sym (c .before .before .before .before .refused-place .ensures) ∙ c .before .before .before .if2 .taken in
+    let o : isInside (a .f) ≡ false = sym (c .before .before .is-inside .ensures) ∙ c .before .if3 .left in
+    rw (c .before .before .before .before .before .if1 .left, outside-run (a .a) (record { flight = a .f; accepted = 0 }) (map (seen (a .reflect)) (ticksOf (a .trace .now))) e o) (c .ended2 .ensures)
+
+ended-requires-3 : tie.Need-ended-requires-3
+ended-requires-3 c κs = search needs
+
+returns-4 : tie.Need-returns-4
+unfolding seenRan ranOver runOf
+returns-4 c =
     let a = c .before .before .before .before .before .args in
     let n : refusedPlace (a .a) ≡ 0 → ⊥ = λ e. c .before .if2 .left (c .before .before .refused-place .ensures ∙ e) in
-    rw (c .before .before .before .if1 .left, refused-run (a .a) (record { flight = a .f; accepted = 0 }) (map (seen (a .reflect)) (ticksOf (a .trace .now))) n) (c .ended2 .ensures)
+    rw (c .before .before .before .if1 .left, refused-run (a .a) (record { flight = a .f; accepted = 0 }) (map (seen (a .reflect)) (ticksOf (a .trace .now))) n) (c .ended3 .ensures)
 
 pub seen-run-spec : {M : Type 1} → statement M
 seen-run-spec =
@@ -43,7 +59,10 @@ seen-run-spec =
     ended-requires
     returns
     refused-place-requires
+    is-inside-requires
     fly-all-requires
     returns-2
     ended-requires-2
-    returns-3)
+    returns-3
+    ended-requires-3
+    returns-4)
