@@ -3,6 +3,8 @@
 ghost use mathlib.Core.Path.{_≡_};
 ghost use Prim.Native.Nat.{_≤_};
 ghost use lib.ListN.{take};
+ghost use Rattle.motors.specs.Motor.{motorsOf};
+ghost use Rattle.surfaces.specs.Surface.{surfacesOf};
 ghost use Rattle.lent_rows.specs.Mixing.{startOf, putOf, mixFrom, mixOf, surfacesIn};
 use mixers::MixRow;
 use mixers::Rows;
@@ -83,9 +85,11 @@ pub fn mixed_lent(list: [MixRow; 16], count: usize, start: Mix) -> Mix
     mixed_from(&all[..count], start)
 }
 
-// The rows of the array form, lent and walked once.
+// The rows of the array form, lent and walked once: they fill what the array form fills.
 pub fn mixed(rows: Rows, layout: MotorLayout) -> Mix
     ensures { λ r. ⌜ r ≡ mixOf rows layout ⌝ }
+    ensures { λ r. ⌜ r .motors ≡ motorsOf rows layout ⌝ }
+    ensures { λ r. ⌜ surfacesIn r ≡ surfacesOf rows ⌝ }
 {
     let list = rows.rows;
     let count = rows.live();

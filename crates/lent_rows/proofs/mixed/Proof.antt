@@ -1,6 +1,10 @@
--- `lent_rows::mixed` meets its contract. Assumes nothing.
+-- `lent_rows::mixed` meets its contract: the array holds 16 rows by its type, so the lent list fills what the array form fills. Assumes nothing.
+use lib.ListN.{length, length-map}
+use mathlib.Core.Path.{_∙_, _≡_, ap, sym}
 use borrow.Author.Needs.{needs}
-use Rattle.lent_rows.specs.Mixing.{mixOf}
+use Rattle.lent_rows.specs.Mixing.{mixOf, surfacesIn}
+use Rattle.lent_rows.specs.declared.Mix.{Mix}
+use Rattle.lent_rows.proofs.Forms.{lent-motors, lent-surfaces}
 use Rattle.lent_rows.proofs.mixed.Statement.{statement}
 use Rattle.lent_rows.proofs.mixed.Tie as tie
 
@@ -15,7 +19,12 @@ mixed-lent-requires c κs = search needs
 
 returns : tie.Need-returns
 unfolding mixOf
-returns c = simp (c .mixed-lent .ensures, c .before .start .ensures, c .before .before .live .ensures .0)
+returns c =
+    let s = c .before .before .before .before in
+    let rows = s .args .rows in
+    let long : length (rows .rows) ≡ 16 = sym (length-map (rows .rows) _) ∙ s .good .0 .1 .1 .0 .1 .0 .1 in
+    let e : c .mixed-lent .result ≡ mixOf rows (s .args .layout) = simp (c .mixed-lent .ensures, c .before .start .ensures, c .before .before .live .ensures .0) in
+    (e, (ap (λ (m : Mix). m .motors) e ∙ lent-motors rows (s .args .layout) long, ap surfacesIn e ∙ lent-surfaces rows (s .args .layout) long))
 
 pub mixed-spec : {M : Type 1} → statement M
 mixed-spec = tie.close (tie.spec live-requires start-requires mixed-lent-requires returns)
