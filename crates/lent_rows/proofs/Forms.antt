@@ -1,22 +1,18 @@
 -- The lent list and the array form agree: the first rows of an array, lent as a list and walked once, fill the motors and the servos that the array form fills. An array of the array form has 16 rows, and `liveOf` is at most that. Assumes nothing.
 use Prim.Native.Nat.{ℕ, suc, zero, _≤_}
 use lib.Dec.{ltb, ltb→lt, T as Holds}
-use lib.ListN.{getD, length, replicate, take}
+use lib.ListN.{getD, length, take}
 use mathlib.Core.Bool.{Bool, cond, false, true}
 use mathlib.Core.List.{List, [], _∷_}
 use mathlib.Core.Path.{_∙_, _≡_, ap, refl, subst, sym}
 use native.Mathlib.Nat.{le-of-suc-le-suc, le-refl, not-suc-le-zero}
 use native.Mathlib.Omega.{arith}
-use Rattle.float.specs.Notation.{nought}
 use Rattle.mixers.specs.Rows.{liveOf, noRow, putTo}
 use Rattle.mixers.specs.declared.MixRow.{MixRow}
 use Rattle.mixers.specs.declared.Rows.{Rows}
 use Rattle.motors.specs.Motor.{motorsOf, putOf as motorPut, stopped}
 use Rattle.motors.specs.declared.MotorLayout.{MotorLayout}
-use Rattle.motors.specs.declared.Motors.{Motors}
-use Rattle.surfaces.specs.Surface.{factorsOf, noFactors, putOf as servoPut, surfacesOf, weighed}
-use Rattle.surfaces.specs.declared.Factors.{Factors}
-use Rattle.surfaces.specs.declared.Surfaces.{Surfaces}
+use Rattle.surfaces.specs.Surface.{factorsOf, noFactors, putOf as servoPut, surfacesOf}
 use Rattle.lent_rows.specs.Mixing.{mixFrom, mixOf, putOf, startOf, surfacesIn}
 use Rattle.lent_rows.specs.declared.Mix.{Mix}
 

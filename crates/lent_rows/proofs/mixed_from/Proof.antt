@@ -29,7 +29,7 @@ use types.Kit.{Given, Item, Sq, runs, anyQ, atRet, ‵, raw, _⊛_, some, later,
 use types.Part.{whole, sub, look-in}
 use types.Run.{look, look-raw, init, store, forget, stop, hop, fld, from, load, lit, of-opd, bin, and-then, no-more, assigns, assigns-last, land, first, blocks, stays, leaves-loop, loops, again, Below, exec, returns, enter, alloc1, alloc0, params1, pass1, pass0, free1, free0}
 use types.Share.{arr-parts}
-use sound.WpLaws.{FmC, fmOf, WpFn-mono}
+use sound.WpLaws.{fmOf, WpFn-mono}
 use denote.RattleType.{owns}
 use denote.Laws.{Is, shows}
 use denote.Memory.{shares, pointee}
