@@ -11,8 +11,6 @@ use mixers::MixRow;
 use mixers::Rows;
 use mixers::Slot;
 use motors::MotorLayout;
-use motors::Motors;
-use surfaces::Surfaces;
 use tailsitter_model::PropWash;
 use vector::Vec3;
 
@@ -305,8 +303,9 @@ fn lowest_place(p: u32, bad: usize) -> u32
 fn airframe_by(xs: [f32; 48], h: Header, rows: Rows) -> Airframe
     ensures { λ r. ⌜ r ≡ Block.airframeBy xs h rows ⌝ }
 {
-    let motors = Motors::new(rows, layout_of(xs));
-    let surfaces = Surfaces::new(rows);
+    let mix = lent_rows::mixed(rows, layout_of(xs));
+    let motors = mix.motors;
+    let surfaces = mix.surfaces();
     let model = model_of(xs, h.kind);
     let wash = wash_of(xs);
     let used = motors.used;

@@ -143,7 +143,7 @@ fn ticked_by(read: AirframeRead, f: Flight, t: Tick) -> Ticked
 {
     let answer = read.answer;
     if answer.number() == 0 {
-        return wing::tick(read.airframe, f, t);
+        return lent_tick::tick_lent(read.airframe, f, t);
     }
     wing::refused(answer, f)
 }
@@ -221,7 +221,7 @@ pub extern "C" fn bench_tick_prepared(
         if rows_fit(state.len(), tick.len(), report.len()) {
             let f = numbers::flight_of(state);
             let t = numbers::tick_of(tick);
-            let done = wing::tick(numbers::airframe_of(airframe), f, t);
+            let done = lent_tick::tick_lent(numbers::airframe_of(airframe), f, t);
             return handed_back(done, state, report);
         }
         return 1;

@@ -98,8 +98,8 @@ fn fly_one(a: Airframe, p: Track, t: Tick, out: &mut [u8; 65536]) -> Track
     requires { ⌜ p .at ≤ 65536 ⌝ }
     ensures { λ r. ⌜ r .at ≤ 65536 ⌝ }
 {
-    let x = wing::tick(a, p.first, t);
-    let y = wing::tick(a.reflected(), p.second, t.reflected());
+    let x = lent_tick::tick_lent(a, p.first, t);
+    let y = lent_tick::tick_lent(a.reflected(), p.second, t.reflected());
     let index = std::num::wrapping_add_u64(p.ticks, 1);
     let at = put_both(out, p.at, index, x, y);
     after(p, x, y, at)

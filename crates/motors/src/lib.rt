@@ -52,7 +52,8 @@ impl Motors {
         motors
     }
 
-    fn stopped(layout: MotorLayout) -> Self
+    // No row yet: no motor is driven.
+    pub fn stopped(layout: MotorLayout) -> Self
         ensures { λ r. ⌜ r ≡ Motor.stopped layout ⌝ }
     {
         let used = [false; 8];

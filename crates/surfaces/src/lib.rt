@@ -16,8 +16,8 @@ pub struct Surfaces {
 }
 
 // The servo slots' factors by row.
-struct Factors {
-    at: [Vec3; 8],
+pub struct Factors {
+    pub at: [Vec3; 8],
 }
 
 impl Surfaces {
@@ -78,7 +78,8 @@ fn factors_of(rows: Rows) -> [Vec3; 8]
 }
 
 impl Factors {
-    fn put(self, row: MixRow) -> Self
+    // One row: a servo's slot and factors; a motor row is passed over.
+    pub fn put(self, row: MixRow) -> Self
         ensures { λ r. ⌜ r ≡ Surface.putOf self row ⌝ }
     {
         let slot = row.slot;
@@ -102,7 +103,7 @@ impl Factors {
 }
 
 // Each slot's factors over the sums of their squares, axis by axis.
-fn weighed(factors: [Vec3; 8]) -> [Vec3; 8]
+pub fn weighed(factors: [Vec3; 8]) -> [Vec3; 8]
     ensures { λ r. ⌜ r ≡ Surface.weighed factors ⌝ }
 {
     let squares = squares_of(factors);

@@ -1,4 +1,4 @@
--- `airframe_block::airframe_by` meets its contract. Assumes nothing.
+-- `airframe_block::airframe_by` meets its contract: what the lent list of rows fills is what the array form fills. Assumes nothing.
 use borrow.Author.Needs.{needs}
 use Rattle.airframe_block.specs.Block.{airframeBy, airframeOf}
 use Rattle.airframe_block.proofs.airframe_by.Statement.{statement}
@@ -7,11 +7,11 @@ use Rattle.airframe_block.proofs.airframe_by.Tie as tie
 layout-of-requires : tie.Need-layout-of-requires
 layout-of-requires c κs = search needs
 
-new-requires : tie.Need-new-requires
-new-requires c κs = search needs
+mixed-requires : tie.Need-mixed-requires
+mixed-requires c κs = search needs
 
-new-requires-2 : tie.Need-new-requires-2
-new-requires-2 c κs = search needs
+surfaces-requires : tie.Need-surfaces-requires
+surfaces-requires c κs = search needs
 
 model-of-requires : tie.Need-model-of-requires
 model-of-requires c κs = search needs
@@ -19,25 +19,28 @@ model-of-requires c κs = search needs
 wash-of-requires : tie.Need-wash-of-requires
 wash-of-requires c κs = search needs
 
-array-read-t16 : tie.Need-array-read-t16
-array-read-t16 c = search needs
+array-read-t17 : tie.Need-array-read-t17
+array-read-t17 c = search needs
 
-array-read-t19 : tie.Need-array-read-t19
-array-read-t19 c = search needs
+array-read-t20 : tie.Need-array-read-t20
+array-read-t20 c = search needs
 
 returns : tie.Need-returns
 unfolding airframeBy airframeOf
-returns c = simp (c .before .before .before .before .wash-of .ensures, c .before .before .before .before .before .model-of .ensures, c .before .before .before .before .before .before .new2 .ensures, c .before .before .before .before .before .before .before .new .ensures, c .before .before .before .before .before .before .before .before .layout-of .ensures)
+returns c =
+    let washed = c .before .before .before .before in
+    let filled = washed .before .before .before .before in
+    simp (washed .wash-of .ensures, washed .before .model-of .ensures, washed .before .before .surfaces .ensures, filled .mixed .ensures .1 .0, filled .mixed .ensures .1 .1, filled .before .layout-of .ensures)
 
 pub airframe-by-spec : {M : Type 1} → statement M
 airframe-by-spec =
     tie.close
     (tie.spec
     layout-of-requires
-    new-requires
-    new-requires-2
+    mixed-requires
+    surfaces-requires
     model-of-requires
     wash-of-requires
-    array-read-t16
-    array-read-t19
+    array-read-t17
+    array-read-t20
     returns)

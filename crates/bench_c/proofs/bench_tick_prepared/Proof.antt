@@ -20,8 +20,8 @@ tick-of-requires c κs = omega (arith, rows-fit _ _ _ (sym (c .before .before .b
 airframe-of-requires : tie.Need-airframe-of-requires
 airframe-of-requires c κs = search needs
 
-tick-requires : tie.Need-tick-requires
-tick-requires c κs = search needs
+tick-lent-requires : tie.Need-tick-lent-requires
+tick-lent-requires c κs = search needs
 
 handed-back-requires : tie.Need-handed-back-requires
 handed-back-requires c κs = (rows-fit _ _ _ (sym (c .before .before .before .before .before .before .before .before .rows-fit .ensures) ∙ c .before .before .before .before .before .before .before .if2 .taken) .0, rows-fit _ _ _ (sym (c .before .before .before .before .before .before .before .before .rows-fit .ensures) ∙ c .before .before .before .before .before .before .before .if2 .taken) .1 .1)
@@ -34,7 +34,7 @@ same-length-2 c = search needs
 
 returns : tie.Need-returns
 unfolding rowTick replyAfter stateAfter reportAfter
-returns c = (simp (c .before .before .before .before .handed-back .ensures .0, c .before .before .before .before .before .before .before .tick .ensures, c .before .before .before .before .before .before .before .before .airframe-of .ensures, c .before .before .before .before .before .before .before .before .before .tick-of .ensures, c .before .before .before .before .before .before .before .before .before .before .flight-of .ensures, sym (c .before .before .before .before .before .before .before .before .before .before .before .before .before .rows-fit .ensures) ∙ c .before .before .before .before .before .before .before .before .before .before .before .before .if2 .taken, eq-eqb _ _ (c .before .before .before .before .before .before .before .before .before .before .before .before .before .before .if1 .taken)), (simp (c .before .before .before .before .handed-back .ensures .1 .0, c .before .before .before .before .before .before .before .tick .ensures, c .before .before .before .before .before .before .before .before .airframe-of .ensures, c .before .before .before .before .before .before .before .before .before .tick-of .ensures, c .before .before .before .before .before .before .before .before .before .before .flight-of .ensures, sym (c .before .before .before .before .before .before .before .before .before .before .before .before .before .rows-fit .ensures) ∙ c .before .before .before .before .before .before .before .before .before .before .before .before .if2 .taken, eq-eqb _ _ (c .before .before .before .before .before .before .before .before .before .before .before .before .before .before .if1 .taken)), simp (c .before .before .before .before .handed-back .ensures .1 .1, c .before .before .before .before .before .before .before .tick .ensures, c .before .before .before .before .before .before .before .before .airframe-of .ensures, c .before .before .before .before .before .before .before .before .before .tick-of .ensures, c .before .before .before .before .before .before .before .before .before .before .flight-of .ensures, sym (c .before .before .before .before .before .before .before .before .before .before .before .before .before .rows-fit .ensures) ∙ c .before .before .before .before .before .before .before .before .before .before .before .before .if2 .taken, eq-eqb _ _ (c .before .before .before .before .before .before .before .before .before .before .before .before .before .before .if1 .taken))))
+returns c = (simp (c .before .before .before .before .handed-back .ensures .0, c .before .before .before .before .before .before .before .tick-lent .ensures, c .before .before .before .before .before .before .before .before .airframe-of .ensures, c .before .before .before .before .before .before .before .before .before .tick-of .ensures, c .before .before .before .before .before .before .before .before .before .before .flight-of .ensures, sym (c .before .before .before .before .before .before .before .before .before .before .before .before .before .rows-fit .ensures) ∙ c .before .before .before .before .before .before .before .before .before .before .before .before .if2 .taken, eq-eqb _ _ (c .before .before .before .before .before .before .before .before .before .before .before .before .before .before .if1 .taken)), (simp (c .before .before .before .before .handed-back .ensures .1 .0, c .before .before .before .before .before .before .before .tick .ensures, c .before .before .before .before .before .before .before .before .airframe-of .ensures, c .before .before .before .before .before .before .before .before .before .tick-of .ensures, c .before .before .before .before .before .before .before .before .before .before .flight-of .ensures, sym (c .before .before .before .before .before .before .before .before .before .before .before .before .before .rows-fit .ensures) ∙ c .before .before .before .before .before .before .before .before .before .before .before .before .if2 .taken, eq-eqb _ _ (c .before .before .before .before .before .before .before .before .before .before .before .before .before .before .if1 .taken)), simp (c .before .before .before .before .handed-back .ensures .1 .1, c .before .before .before .before .before .before .before .tick .ensures, c .before .before .before .before .before .before .before .before .airframe-of .ensures, c .before .before .before .before .before .before .before .before .before .tick-of .ensures, c .before .before .before .before .before .before .before .before .before .before .flight-of .ensures, sym (c .before .before .before .before .before .before .before .before .before .before .before .before .before .rows-fit .ensures) ∙ c .before .before .before .before .before .before .before .before .before .before .before .before .if2 .taken, eq-eqb _ _ (c .before .before .before .before .before .before .before .before .before .before .before .before .before .before .if1 .taken))))
 
 returns-2 : tie.Need-returns-2
 unfolding replyAfter stateAfter reportAfter
@@ -52,7 +52,7 @@ bench-tick-prepared-spec =
     flight-of-requires
     tick-of-requires
     airframe-of-requires
-    tick-requires
+    tick-lent-requires
     handed-back-requires
     same-length
     same-length-2

@@ -9,12 +9,12 @@ use Rattle.bench_c.proofs.ticked_by.Tie as tie
 number-requires : tie.Need-number-requires
 number-requires c κs = search needs
 
-tick-requires : tie.Need-tick-requires
-tick-requires c κs = search needs
+tick-lent-requires : tie.Need-tick-lent-requires
+tick-lent-requires c κs = search needs
 
 returns : tie.Need-returns
 unfolding tickedBy
-returns c = simp (c .tick .ensures, eq-eqb _ _ (sym (c .before .before .number .ensures) ∙ c .before .if1 .taken))
+returns c = simp (c .tick-lent .ensures, eq-eqb _ _ (sym (c .before .before .number .ensures) ∙ c .before .if1 .taken))
 
 refused-requires : tie.Need-refused-requires
 refused-requires c κs = search needs
@@ -25,4 +25,4 @@ returns-2 c = simp (c .refused .ensures, ne-eqb _ _ (λ e. c .before .if1 .left 
 
 pub ticked-by-spec : {M : Type 1} → statement M
 ticked-by-spec =
-    tie.close (tie.spec number-requires tick-requires returns refused-requires returns-2)
+    tie.close (tie.spec number-requires tick-lent-requires returns refused-requires returns-2)

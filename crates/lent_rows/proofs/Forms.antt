@@ -1,0 +1,62 @@
+-- The lent list and the array form agree: the first rows of an array, lent as a list and walked once, fill the motors and the servos that the array form fills. An array of the array form has 16 rows, and `liveOf` is at most that. Assumes nothing.
+use Prim.Native.Nat.{ℕ, suc, zero, _≤_}
+use lib.Dec.{ltb, ltb→lt, T as Holds}
+use lib.ListN.{getD, length, take}
+use mathlib.Core.Bool.{Bool, cond, false, true}
+use mathlib.Core.List.{List, [], _∷_}
+use mathlib.Core.Path.{_∙_, _≡_, ap, refl, subst, sym}
+use native.Mathlib.Nat.{le-of-suc-le-suc, le-refl, not-suc-le-zero}
+use native.Mathlib.Omega.{arith}
+use Rattle.mixers.specs.Rows.{liveOf, noRow, putTo}
+use Rattle.mixers.specs.declared.MixRow.{MixRow}
+use Rattle.mixers.specs.declared.Rows.{Rows}
+use Rattle.motors.specs.Motor.{motorsOf, putOf as motorPut, stopped}
+use Rattle.motors.specs.declared.MotorLayout.{MotorLayout}
+use Rattle.surfaces.specs.Surface.{factorsOf, noFactors, putOf as servoPut, surfacesOf}
+use Rattle.lent_rows.specs.Mixing.{mixFrom, mixOf, putOf, startOf, surfacesIn}
+use Rattle.lent_rows.specs.declared.Mix.{Mix}
+
+-- the first row of a list may be put before the others
+put-first : {X : Type 0} (put : X → MixRow → X) (x : X) (row : MixRow) (rows : List MixRow) (n : ℕ) → putTo put x (row ∷ rows) (suc n) ≡ putTo put (put x row) rows n
+unfolding putTo
+put-first put x row rows zero = refl
+put-first put x row rows (suc n) = ap (λ z. put z (getD rows n noRow)) (put-first put x row rows n)
+
+-- so the first n rows as a list are the first n by number
+pub list-as-array : (m : Mix) (rows : List MixRow) (n : ℕ) → n ≤ length rows → mixFrom m (take n rows) ≡ putTo putOf m rows n
+unfolding mixFrom putTo
+list-as-array m rows zero l = refl
+list-as-array m [] (suc n) l = absurd (not-suc-le-zero l)
+list-as-array m (row ∷ rows) (suc n) l = list-as-array (putOf m row) rows n (le-of-suc-le-suc l) ∙ sym (put-first putOf m row rows n)
+
+-- a mix is filled part by part: each part sees the rows alone
+abbrev parts : MotorLayout → List MixRow → ℕ → Mix
+parts l rows n = record { layout = l; motors = putTo (motorPut l) (stopped l) rows n; factors = putTo servoPut noFactors rows n }
+
+by-parts : (l : MotorLayout) (rows : List MixRow) (n : ℕ) → putTo putOf (startOf l) rows n ≡ parts l rows n
+unfolding putTo startOf putOf
+by-parts l rows zero = refl
+by-parts l rows (suc n) = ap (λ (m : Mix). putOf m (getD rows n noRow)) (by-parts l rows n)
+
+live-at : (rows : Rows) (t : Bool) → ltb (rows .count) 16 ≡ t → cond t (rows .count) 16 ≤ 16
+live-at rows true e = omega (arith, ltb→lt (rows .count) 16 (subst Holds (sym e) tt))
+live-at rows false e = le-refl 16
+
+live-most : (rows : Rows) → liveOf rows ≤ 16
+unfolding liveOf
+live-most rows = live-at rows (ltb (rows .count) 16) refl
+
+-- what the lent list fills is what the array form fills
+pub lent-parts : (rows : Rows) (l : MotorLayout) → length (rows .rows) ≡ 16 → mixOf rows l ≡ parts l (rows .rows) (liveOf rows)
+unfolding mixOf
+lent-parts rows l long = list-as-array (startOf l) (rows .rows) (liveOf rows) (omega (arith, live-most rows, long)) ∙ by-parts l (rows .rows) (liveOf rows)
+
+-- the motors
+pub lent-motors : (rows : Rows) (l : MotorLayout) → length (rows .rows) ≡ 16 → mixOf rows l .motors ≡ motorsOf rows l
+unfolding motorsOf
+lent-motors rows l long = ap (λ (m : Mix). m .motors) (lent-parts rows l long)
+
+-- and the servos
+pub lent-surfaces : (rows : Rows) (l : MotorLayout) → length (rows .rows) ≡ 16 → surfacesIn (mixOf rows l) ≡ surfacesOf rows
+unfolding surfacesIn surfacesOf factorsOf
+lent-surfaces rows l long = ap surfacesIn (lent-parts rows l long)

@@ -1,0 +1,3 @@
+-- Laws of a lent list of mixing rows.
+pub mod Walk
+pub mod Forms

@@ -1,0 +1,30 @@
+-- `lent_rows::mixed` meets its contract: the array holds 16 rows by its type, so the lent list fills what the array form fills. Assumes nothing.
+use lib.ListN.{length, length-map}
+use mathlib.Core.Path.{_∙_, _≡_, ap, sym}
+use borrow.Author.Needs.{needs}
+use Rattle.lent_rows.specs.Mixing.{mixOf, surfacesIn}
+use Rattle.lent_rows.specs.declared.Mix.{Mix}
+use Rattle.lent_rows.proofs.Forms.{lent-motors, lent-surfaces}
+use Rattle.lent_rows.proofs.mixed.Statement.{statement}
+use Rattle.lent_rows.proofs.mixed.Tie as tie
+
+live-requires : tie.Need-live-requires
+live-requires c κs = search needs
+
+start-requires : tie.Need-start-requires
+start-requires c κs = search needs
+
+mixed-lent-requires : tie.Need-mixed-lent-requires
+mixed-lent-requires c κs = search needs
+
+returns : tie.Need-returns
+unfolding mixOf
+returns c =
+    let s = c .before .before .before .before in
+    let rows = s .args .rows in
+    let long : length (rows .rows) ≡ 16 = sym (length-map (rows .rows) _) ∙ s .good .0 .1 .1 .0 .1 .0 .1 in
+    let e : c .mixed-lent .result ≡ mixOf rows (s .args .layout) = simp (c .mixed-lent .ensures, c .before .start .ensures, c .before .before .live .ensures .0) in
+    (e, (ap (λ (m : Mix). m .motors) e ∙ lent-motors rows (s .args .layout) long, ap surfacesIn e ∙ lent-surfaces rows (s .args .layout) long))
+
+pub mixed-spec : {M : Type 1} → statement M
+mixed-spec = tie.close (tie.spec live-requires start-requires mixed-lent-requires returns)

@@ -1,0 +1,2 @@
+-- A lent list of mixing rows. Definitions only.
+pub mod Mixing

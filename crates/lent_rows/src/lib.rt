@@ -1,0 +1,97 @@
+// A lent list of mixing rows, read by slot: a slice of rows, walked once, fills the motors' torques and the servos' factors. It
+// stands beside the array form of `mixers::Rows`.
+ghost use mathlib.Core.Path.{_≡_};
+ghost use Prim.Native.Nat.{_≤_};
+ghost use lib.ListN.{take};
+ghost use Rattle.motors.specs.Motor.{motorsOf};
+ghost use Rattle.surfaces.specs.Surface.{surfacesOf};
+ghost use Rattle.lent_rows.specs.Mixing.{startOf, putOf, mixFrom, mixOf, surfacesIn};
+use mixers::MixRow;
+use mixers::Rows;
+use motors::MotorLayout;
+use motors::Motors;
+use surfaces::Factors;
+use surfaces::Surfaces;
+use vector::Vec3;
+
+// What the rows read so far fill.
+pub struct Mix {
+    pub layout: MotorLayout,
+    pub motors: Motors,
+    pub factors: Factors,
+}
+
+impl Mix {
+    // No row yet: no motor and no servo is driven.
+    pub fn start(layout: MotorLayout) -> Self
+        ensures { λ r. ⌜ r ≡ startOf layout ⌝ }
+    {
+        let motors = Motors::stopped(layout);
+        let factors = Factors {
+            at: [Vec3::zeros(); 8],
+        };
+        Mix {
+            layout,
+            motors,
+            factors,
+        }
+    }
+
+    // One row: a motor's torque or a servo's factors. A later row of a slot wins.
+    pub fn put(self, row: MixRow) -> Self
+        ensures { λ r. ⌜ r ≡ putOf self row ⌝ }
+    {
+        let layout = self.layout;
+        let motors = self.motors.put(row, layout);
+        let factors = self.factors.put(row);
+        Mix {
+            layout,
+            motors,
+            factors,
+        }
+    }
+
+    // The servos of the rows read, with their weights. Servos start centered.
+    pub fn surfaces(self) -> Surfaces
+        ensures { λ r. ⌜ r ≡ surfacesIn self ⌝ }
+    {
+        let factors = self.factors;
+        let at = factors.at;
+        let weights = surfaces::weighed(at);
+        let running = [0.0; 8];
+        Surfaces { weights, running }
+    }
+}
+
+// The rows of a lent list, put one after the other.
+pub fn mixed_from(rows: &[MixRow], start: Mix) -> Mix
+    ensures { λ r. ⌜ r ≡ mixFrom start (now (rows .entry)) ⌝ }
+{
+    let mut m = start;
+    let mut i = 0usize;
+    while i < rows.len() {
+        m = m.put(rows[i]);
+        i += 1;
+    }
+    m
+}
+
+// The same by value: the first `count` rows of an array are lent.
+pub fn mixed_lent(list: [MixRow; 16], count: usize, start: Mix) -> Mix
+    requires { ⌜ count ≤ 16 ⌝ }
+    ensures { λ r. ⌜ r ≡ mixFrom start (take count list) ⌝ }
+{
+    let all = list;
+    mixed_from(&all[..count], start)
+}
+
+// The rows of the array form, lent and walked once: they fill what the array form fills.
+pub fn mixed(rows: Rows, layout: MotorLayout) -> Mix
+    ensures { λ r. ⌜ r ≡ mixOf rows layout ⌝ }
+    ensures { λ r. ⌜ r .motors ≡ motorsOf rows layout ⌝ }
+    ensures { λ r. ⌜ surfacesIn r ≡ surfacesOf rows ⌝ }
+{
+    let list = rows.rows;
+    let count = rows.live();
+    mixed_lent(list, count, Mix::start(layout))
+}

@@ -1,0 +1,2 @@
+-- Laws of lent ticks.
+pub mod Runs

@@ -1,0 +1,2 @@
+-- Lent ticks, one after the other. Definitions only.
+pub mod Lent
