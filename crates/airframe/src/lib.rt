@@ -6,6 +6,7 @@ ghost use Rattle.airframe.specs.Acceptance as Acceptance;
 ghost use Rattle.airframe.specs.Numbers as Numbers;
 ghost use Rattle.airframe.specs.Reflection as Reflection;
 ghost use mathlib.Core.List.{map};
+ghost use Rattle.float.specs.Ordered.{allPass};
 ghost use Rattle.vector.specs.Reflection.{reflectAxis};
 use fixed_wing::AeroCoefficients;
 use fixed_wing::FixedWingModel;
@@ -245,11 +246,29 @@ fn tested_places(wash_present: bool) -> usize
     if wash_present { 48 } else { 41 }
 }
 
+// Whether the first `count` numbers lie within their limits: all are looked at, with no way out between them.
+fn places_inside(numbers: [f32; 48], low: [f32; 48], count: usize) -> bool
+    requires { ⌜ count ≤ 48 ⌝ }
+    ensures { λ r. ⌜ r ≡ allPass (Acceptance.placeInside low numbers) count ⌝ }
+{
+    let high = HIGH;
+    let mut ok = true;
+    let mut i = 0usize;
+    while i < count {
+        ok = float::both(ok, float::inside(numbers[i], low[i], high[i]));
+        i += 1;
+    }
+    ok
+}
+
 // The first of `count` numbers outside its limits, counted from 1; 0 for none.
 fn first_outside(numbers: [f32; 48], low: [f32; 48], count: usize) -> u32
     requires { ⌜ count ≤ 48 ⌝ }
     ensures { λ r. ⌜ r ≡ Acceptance.firstOutside low numbers count ⌝ ∗ ⌜ r ≤ 48 ⌝ }
 {
+    if places_inside(numbers, low, count) {
+        return 0;
+    }
     let high = HIGH;
     let mut i = 0usize;
     while i < count {
@@ -261,18 +280,27 @@ fn first_outside(numbers: [f32; 48], low: [f32; 48], count: usize) -> u32
     0
 }
 
+// Whether each slot's vector has components of at most `limit` in size.
+fn vectors_inside(vectors: [Vec3; 8], limit: f32) -> bool
+    ensures { λ r. ⌜ r ≡ allPass (Acceptance.slotVecInside limit vectors) 8 ⌝ }
+{
+    let mut ok = true;
+    let mut i = 0usize;
+    while i < 8 {
+        ok = float::both(ok, vec_inside(vectors[i], limit));
+        i += 1;
+    }
+    ok
+}
+
 // `place` where a slot's vector has a component larger in size than `limit`, else 0.
 fn vectors_outside(vectors: [Vec3; 8], limit: f32, place: u32) -> u32
     ensures { λ r. ⌜ r ≡ Acceptance.vectorsOutside limit place vectors ⌝ }
 {
-    let mut i = 0usize;
-    while i < 8 {
-        if !vec_inside(vectors[i], limit) {
-            return place;
-        }
-        i += 1;
+    if vectors_inside(vectors, limit) {
+        return 0;
     }
-    0
+    place
 }
 
 fn vec_inside(v: Vec3, limit: f32) -> bool

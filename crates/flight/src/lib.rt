@@ -2,6 +2,7 @@
 ghost use mathlib.Core.Path.{_≡_};
 ghost use Prim.Native.Nat.{_≤_};
 ghost use lib.ListN.{length};
+ghost use Rattle.float.specs.Ordered.{allPass};
 ghost use Rattle.flight.specs.Envelope as Envelope;
 ghost use Rattle.flight.specs.Reflection as Reflection;
 use vector::Quaternion;
@@ -97,10 +98,26 @@ fn vec_outside(v: Vec3, limit: f32) -> u32
     1
 }
 
+// Whether each slot's value lies within low..high: all are looked at, with no way out between them.
+fn slots_inside(values: [f32; 8], low: f32, high: f32) -> bool
+    ensures { λ r. ⌜ r ≡ allPass (Envelope.slotInside low high values) 8 ⌝ }
+{
+    let mut ok = true;
+    let mut i = 0usize;
+    while i < 8 {
+        ok = float::both(ok, float::inside(values[i], low, high));
+        i += 1;
+    }
+    ok
+}
+
 // Which slot's value lies outside low..high, counted from 1; 0 for none.
 fn slots_outside(values: [f32; 8], low: f32, high: f32) -> u32
     ensures { λ r. ⌜ r ≡ Envelope.slotsOutside low high values ⌝ ∗ ⌜ r ≤ 8 ⌝ }
 {
+    if slots_inside(values, low, high) {
+        return 0;
+    }
     let mut i = 0u32;
     while i < 8 {
         if !float::inside(values[i as usize], low, high) {

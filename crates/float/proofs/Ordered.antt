@@ -3,14 +3,15 @@ use Prim.Native.Nat.{_+_, _-_, _<_, _≤_, suc, zero, ℕ}
 use lib.Dec.{T, eqb, eqb·suc-zero}
 use lib.Ieee.{Float, le, neg}
 use mathlib.Core.Bool.{Bool, _&&_, cond, false, false≢true, not, true}
+use mathlib.Core.Logic.{_⊎_, inl, inr}
 use mathlib.Core.Path.{_∙_, _≡_, ap, ap₂, refl, subst, sym}
-use native.Mathlib.Nat.{zero-add}
+use native.Mathlib.Nat.{eq-or-lt-of-le, zero-add}
 use native.Mathlib.Numerals.{add-one}
 use native.Mathlib.Omega.{arith}
 use Rattle.float.proofs.Mirror.{r-le, r-le-opp, r-same}
 use Rattle.float.proofs.Sign.{neg-neg}
 use Rattle.float.specs.Interval.{Within, inside}
-use Rattle.float.specs.Ordered.{after, firstFail, orElse}
+use Rattle.float.specs.Ordered.{after, allPass, firstFail, orElse}
 use Rattle.float.specs.Same.{Rel, num}
 
 -- ---- a loop over the tests below n, at i
@@ -65,6 +66,41 @@ none-fails ok i zero h = refl
 none-fails ok i (suc n) h = rw (h i (omega arith)) (none-fails ok (suc i) n (λ k l. h k (omega (arith, l))))
 
 -- ---- equal tests
+both : (t u : Bool) → cond t u false ≡ true → (t ≡ true) × (u ≡ true)
+both true u e = (refl, e)
+both false u e = absurd (false≢true e)
+
+pub pass-each : (ok : ℕ → Bool) (n : ℕ) → allPass ok n ≡ true → (k : ℕ) → k < n → ok k ≡ true
+unfolding allPass
+pass-each ok zero e k l = absurd (none k l)
+  where
+    none : (k : ℕ) → k < 0 → ⊥
+    none k l = omega arith
+pass-each ok (suc n) e k l = go (λ p. pass-each ok n (both (ok n) (allPass ok n) e .1) k p) (eq-or-lt-of-le (below k l))
+  where
+    below : (k : ℕ) → k < suc n → k ≤ n
+    below k l = omega arith
+
+    go : (k < n → ok k ≡ true) → (k ≡ n) ⊎ (k < n) → ok k ≡ true
+    go lower (inl p) = ap ok p ∙ both (ok n) (allPass ok n) e .0
+    go lower (inr p) = lower p
+
+pub pass-none : (ok : ℕ → Bool) (n : ℕ) → allPass ok n ≡ true → firstFail ok 0 n ≡ 0
+pass-none ok n e = none-fails ok 0 n (λ k l. pass-each ok n e k (omega (arith, l)))
+
+each-pass : (ok : ℕ → Bool) (n : ℕ) → ((k : ℕ) → k < n → ok k ≡ true) → allPass ok n ≡ true
+unfolding allPass
+each-pass ok zero h = refl
+each-pass ok (suc n) h = rw (h n (omega arith)) (each-pass ok n (λ k l. h k (omega (arith, l))))
+
+pub pass-some : (ok : ℕ → Bool) (n : ℕ) → allPass ok n ≡ false → firstFail ok 0 n ≡ 0 → ⊥
+pass-some ok n e z = false≢true (sym e ∙ each-pass ok n (all-pass ok n z))
+
+-- one test more, in a loop that keeps whether all passed
+pub pass-more : (ok : ℕ → Bool) (n : ℕ) (t r : Bool) → t ≡ allPass ok n → r ≡ cond (ok n) t false → r ≡ allPass ok (n + 1)
+unfolding allPass
+pass-more ok n t r e h = h ∙ ap (λ (b : Bool). cond (ok n) b false) e ∙ ap (allPass ok) (sym (add-one n))
+
 pub fail-same : {ok ok' : ℕ → Bool} (i n : ℕ) → ((k : ℕ) → ok' k ≡ ok k) → firstFail ok' i n ≡ firstFail ok i n
 unfolding firstFail
 fail-same i zero h = refl

@@ -1,12 +1,17 @@
 -- Tests in a row: the number of the first that fails, counted from 1; 0 where none does. Definitions only.
 use Prim.Native.Nat.{_+_, suc, zero, ℕ}
 use lib.Dec.{eqb}
-use mathlib.Core.Bool.{Bool, cond}
+use mathlib.Core.Bool.{Bool, cond, false, true}
 
 -- the tests with the indexes from i, n of them
 unfoldable pub firstFail : (ℕ → Bool) → ℕ → ℕ → ℕ
 firstFail ok i zero = 0
 firstFail ok i (suc n) = cond (ok i) (firstFail ok (suc i) n) (suc i)
+
+-- whether the first n tests all pass
+unfoldable pub allPass : (ℕ → Bool) → ℕ → Bool
+allPass ok zero = true
+allPass ok (suc n) = cond (ok n) (allPass ok n) false
 
 -- one row of tests after another, which has n tests
 unfoldable pub orElse : ℕ → ℕ → ℕ

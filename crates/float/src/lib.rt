@@ -1,7 +1,7 @@
 // 32-bit floats by their bits and bytes, truncation, and powers of two. No flight in it.
 ghost use mathlib.Core.Path.{_≡_};
 ghost use Prim.Native.Nat.{_+_, _*_, _<_, _≤_, _%_};
-ghost use mathlib.Core.Bool.{true, false};
+ghost use mathlib.Core.Bool.{cond, true, false};
 ghost use lib.IntN.{pos, negsuc};
 ghost use lib.Signed.{leZ};
 ghost use lib.Dec.{T};
@@ -144,6 +144,13 @@ pub fn inside(x: f32, lo: f32, hi: f32) -> bool
         return x <= hi;
     }
     false
+}
+
+// Whether both hold: one test more, in a loop over all of them.
+pub fn both(a: bool, b: bool) -> bool
+    ensures { λ r. ⌜ r ≡ cond b a false ⌝ }
+{
+    if b { a } else { false }
 }
 
 // Of two rows of tests, each with the number of its first failed test or 0, the first number that is not 0.

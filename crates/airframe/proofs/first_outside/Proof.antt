@@ -1,15 +1,15 @@
 -- `airframe::first_outside` meets its contract. Assumes nothing.
-use Prim.Native.Nat.{_-_, _≤_, ℕ}
-use lib.Ieee.{Float, low, ofBits, round}
-use mathlib.Core.List.{List}
-use mathlib.Core.Path.{_∙_, _≡_, ap, refl, sym}
-use native.Mathlib.Omega.{arith}
-use borrow.Author.Needs.{needs}
-use Rattle.float.proofs.Ordered.{fail-end, fail-here, fail-next, not-false, not-true}
-use Rattle.float.specs.Interval.{inside}
-use Rattle.float.specs.Ordered.{firstFail}
-use Rattle.mixers.specs.Slots.{at}
 use Rattle.airframe.specs.Acceptance.{firstOutside, highTable, placeInside}
+use Rattle.mixers.specs.Slots.{at}
+use Rattle.float.specs.Ordered.{firstFail}
+use Rattle.float.specs.Interval.{inside}
+use Rattle.float.proofs.Ordered.{fail-end, fail-here, fail-next, not-false, not-true, pass-none}
+use borrow.Author.Needs.{needs}
+use native.Mathlib.Omega.{arith}
+use mathlib.Core.Path.{_∙_, _≡_, ap, refl, sym}
+use mathlib.Core.List.{List}
+use lib.Ieee.{Float, ofBits, round}
+use Prim.Native.Nat.{_-_, _≤_, ℕ}
 use Rattle.airframe.proofs.first_outside.Statement.{statement}
 use Rattle.airframe.proofs.first_outside.Tie as tie
 
@@ -22,9 +22,16 @@ Inv-loop count numbers low high i₀ i = (i ≤ count) × (count ≤ 48) × (hig
 abbrev μ-loop : tie.MeasureT-loop
 μ-loop count numbers low high i₀ i = count - i
 
+places-inside-requires : tie.Need-places-inside-requires Inv-loop μ-loop
+places-inside-requires c κs = search needs
+
+returns : tie.Need-returns Inv-loop μ-loop
+unfolding firstOutside
+returns c = (sym (pass-none _ _ (sym (c .before .places-inside .ensures) ∙ c .if1 .taken)), search needs)
+
 loop-holds : tie.Need-loop-holds Inv-loop μ-loop
 unfolding highTable ofBits round
-loop-holds c = (search needs, search needs, refl, ap (firstFail _ 0) (whole (c .args .count)))
+loop-holds c = (search needs, search needs, refl, ap (firstFail _ 0) (whole (c .before .before .args .count)))
 
 mul-inside : tie.Need-mul-inside Inv-loop μ-loop
 mul-inside c = search needs
@@ -53,12 +60,12 @@ add-result c = search needs
 cast-result : tie.Need-cast-result Inv-loop μ-loop
 cast-result c = search needs
 
-returns : tie.Need-returns Inv-loop μ-loop
+returns-2 : tie.Need-returns-2 Inv-loop μ-loop
 unfolding firstOutside placeInside
-returns c =
+returns-2 c =
     let s = c .before .before .before in
     let h = s .loop .inv .2 in
-    (sym (s .loop .inv .3 ∙ fail-here _ (s .loop .i) _ (c .before .before .loop-test .taken) (sym (c .before .inside .ensures ∙ ap (λ (l : List Float). inside (at (s .before .args .t2) (s .loop .i)) (at l (s .loop .i)) (at (s .before .args .t1) (s .loop .i))) h) ∙ not-true (c .if1 .taken))), search needs)
+    (sym (s .loop .inv .3 ∙ fail-here _ (s .loop .i) _ (c .before .before .loop-test .taken) (sym (c .before .inside .ensures ∙ ap (λ (l : List Float). inside (at (c .before .before .before .before .before .before .args .t2) (s .loop .i)) (at l (s .loop .i)) (at (c .before .before .before .before .before .before .args .t1) (s .loop .i))) h) ∙ not-true (c .if2 .taken))), search needs)
 
 add-i : tie.Need-add-i Inv-loop μ-loop
 add-i c = search needs
@@ -71,11 +78,11 @@ unfolding placeInside
 loop-again c =
     let s = c .before .before .before in
     let h = s .loop .inv .2 in
-    (search needs, search needs, h, s .loop .inv .3 ∙ fail-next _ (s .loop .i) _ (c .before .before .loop-test .taken) (sym (c .before .inside .ensures ∙ ap (λ (l : List Float). inside (at (s .before .args .t2) (s .loop .i)) (at l (s .loop .i)) (at (s .before .args .t1) (s .loop .i))) h) ∙ not-false (c .if1 .left)))
+    (search needs, search needs, h, s .loop .inv .3 ∙ fail-next _ (s .loop .i) _ (c .before .before .loop-test .taken) (sym (c .before .inside .ensures ∙ ap (λ (l : List Float). inside (at (c .before .before .before .before .before .before .args .t2) (s .loop .i)) (at l (s .loop .i)) (at (c .before .before .before .before .before .before .args .t1) (s .loop .i))) h) ∙ not-false (c .if2 .left)))
 
-returns-2 : tie.Need-returns-2 Inv-loop μ-loop
+returns-3 : tie.Need-returns-3 Inv-loop μ-loop
 unfolding firstOutside
-returns-2 c = (sym (c .before .loop .inv .3 ∙ fail-end _ (c .before .loop .i) _ (c .loop-test .left)), search needs)
+returns-3 c = (sym (c .before .loop .inv .3 ∙ fail-end _ (c .before .loop .i) _ (c .loop-test .left)), search needs)
 
 pub first-outside-spec : {M : Type 1} → statement M
 first-outside-spec =
@@ -83,6 +90,8 @@ first-outside-spec =
     (tie.spec
     Inv-loop
     μ-loop
+    places-inside-requires
+    returns
     loop-holds
     mul-inside
     array-read-inside
@@ -93,8 +102,8 @@ first-outside-spec =
     inside-requires
     add-result
     cast-result
-    returns
+    returns-2
     add-i
     loop-less
     loop-again
-    returns-2)
+    returns-3)

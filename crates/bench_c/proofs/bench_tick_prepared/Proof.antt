@@ -34,7 +34,7 @@ same-length-2 c = search needs
 
 returns : tie.Need-returns
 unfolding rowTick replyAfter stateAfter reportAfter
-returns c = (simp (c .before .before .before .before .handed-back .ensures .0, c .before .before .before .before .before .before .before .tick-lent .ensures, c .before .before .before .before .before .before .before .before .airframe-of .ensures, c .before .before .before .before .before .before .before .before .before .tick-of .ensures, c .before .before .before .before .before .before .before .before .before .before .flight-of .ensures, sym (c .before .before .before .before .before .before .before .before .before .before .before .before .before .rows-fit .ensures) ∙ c .before .before .before .before .before .before .before .before .before .before .before .before .if2 .taken, eq-eqb _ _ (c .before .before .before .before .before .before .before .before .before .before .before .before .before .before .if1 .taken)), (simp (c .before .before .before .before .handed-back .ensures .1 .0, c .before .before .before .before .before .before .before .tick .ensures, c .before .before .before .before .before .before .before .before .airframe-of .ensures, c .before .before .before .before .before .before .before .before .before .tick-of .ensures, c .before .before .before .before .before .before .before .before .before .before .flight-of .ensures, sym (c .before .before .before .before .before .before .before .before .before .before .before .before .before .rows-fit .ensures) ∙ c .before .before .before .before .before .before .before .before .before .before .before .before .if2 .taken, eq-eqb _ _ (c .before .before .before .before .before .before .before .before .before .before .before .before .before .before .if1 .taken)), simp (c .before .before .before .before .handed-back .ensures .1 .1, c .before .before .before .before .before .before .before .tick .ensures, c .before .before .before .before .before .before .before .before .airframe-of .ensures, c .before .before .before .before .before .before .before .before .before .tick-of .ensures, c .before .before .before .before .before .before .before .before .before .before .flight-of .ensures, sym (c .before .before .before .before .before .before .before .before .before .before .before .before .before .rows-fit .ensures) ∙ c .before .before .before .before .before .before .before .before .before .before .before .before .if2 .taken, eq-eqb _ _ (c .before .before .before .before .before .before .before .before .before .before .before .before .before .before .if1 .taken))))
+returns c = (simp (c .before .before .before .before .handed-back .ensures .0, c .before .before .before .before .before .before .before .tick-lent .ensures, c .before .before .before .before .before .before .before .before .airframe-of .ensures, c .before .before .before .before .before .before .before .before .before .tick-of .ensures, c .before .before .before .before .before .before .before .before .before .before .flight-of .ensures, sym (c .before .before .before .before .before .before .before .before .before .before .before .before .before .rows-fit .ensures) ∙ c .before .before .before .before .before .before .before .before .before .before .before .before .if2 .taken, eq-eqb _ _ (c .before .before .before .before .before .before .before .before .before .before .before .before .before .before .if1 .taken)), (simp (c .before .before .before .before .handed-back .ensures .1 .0, c .before .before .before .before .before .before .before .tick-lent .ensures, c .before .before .before .before .before .before .before .before .airframe-of .ensures, c .before .before .before .before .before .before .before .before .before .tick-of .ensures, c .before .before .before .before .before .before .before .before .before .before .flight-of .ensures, sym (c .before .before .before .before .before .before .before .before .before .before .before .before .before .rows-fit .ensures) ∙ c .before .before .before .before .before .before .before .before .before .before .before .before .if2 .taken, eq-eqb _ _ (c .before .before .before .before .before .before .before .before .before .before .before .before .before .before .if1 .taken)), simp (c .before .before .before .before .handed-back .ensures .1 .1, c .before .before .before .before .before .before .before .tick-lent .ensures, c .before .before .before .before .before .before .before .before .airframe-of .ensures, c .before .before .before .before .before .before .before .before .before .tick-of .ensures, c .before .before .before .before .before .before .before .before .before .before .flight-of .ensures, sym (c .before .before .before .before .before .before .before .before .before .before .before .before .before .rows-fit .ensures) ∙ c .before .before .before .before .before .before .before .before .before .before .before .before .if2 .taken, eq-eqb _ _ (c .before .before .before .before .before .before .before .before .before .before .before .before .before .before .if1 .taken))))
 
 returns-2 : tie.Need-returns-2
 unfolding replyAfter stateAfter reportAfter

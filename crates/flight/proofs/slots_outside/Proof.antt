@@ -1,12 +1,11 @@
 -- `flight::slots_outside` meets its contract. Assumes nothing.
-use Prim.Native.Nat.{_-_, _≤_}
-use lib.Ieee.{low}
-use mathlib.Core.Path.{_∙_, _≡_, refl, sym}
-use native.Mathlib.Omega.{arith}
-use borrow.Author.Needs.{needs}
-use Rattle.float.proofs.Ordered.{fail-end, fail-here, fail-next, not-false, not-true}
-use Rattle.float.specs.Ordered.{firstFail}
 use Rattle.flight.specs.Envelope.{slotInside, slotsOutside}
+use Rattle.float.specs.Ordered.{firstFail}
+use Rattle.float.proofs.Ordered.{fail-end, fail-here, fail-next, not-false, not-true, pass-none}
+use borrow.Author.Needs.{needs}
+use native.Mathlib.Omega.{arith}
+use mathlib.Core.Path.{_∙_, _≡_, refl, sym}
+use Prim.Native.Nat.{_-_, _≤_}
 use Rattle.flight.proofs.slots_outside.Statement.{statement}
 use Rattle.flight.proofs.slots_outside.Tie as tie
 
@@ -15,6 +14,13 @@ Inv-loop low high values i₀ i = (i ≤ 8) × (firstFail (slotInside low high v
 
 abbrev μ-loop : tie.MeasureT-loop
 μ-loop low high values i₀ i = 8 - i
+
+slots-inside-requires : tie.Need-slots-inside-requires Inv-loop μ-loop
+slots-inside-requires c κs = search needs
+
+returns : tie.Need-returns Inv-loop μ-loop
+unfolding slotsOutside
+returns c = (sym (pass-none _ 8 (sym (c .before .slots-inside .ensures) ∙ c .if1 .taken)), search needs)
 
 loop-holds : tie.Need-loop-holds Inv-loop μ-loop
 loop-holds c = (search needs, refl)
@@ -34,11 +40,11 @@ inside-requires c κs = search needs
 add-result : tie.Need-add-result Inv-loop μ-loop
 add-result c = search needs
 
-returns : tie.Need-returns Inv-loop μ-loop
+returns-2 : tie.Need-returns-2 Inv-loop μ-loop
 unfolding slotsOutside slotInside
-returns c =
+returns-2 c =
     let s = c .before .before .before in
-    (sym (s .loop .inv .1 ∙ fail-here _ (s .loop .i) 8 (c .before .before .loop-test .taken) (sym (c .before .inside .ensures) ∙ not-true (c .if1 .taken))), omega (arith, c .before .before .loop-test .taken))
+    (sym (s .loop .inv .1 ∙ fail-here _ (s .loop .i) 8 (c .before .before .loop-test .taken) (sym (c .before .inside .ensures) ∙ not-true (c .if2 .taken))), omega (arith, c .before .before .loop-test .taken))
 
 add-i : tie.Need-add-i Inv-loop μ-loop
 add-i c = search needs
@@ -50,11 +56,11 @@ loop-again : tie.Need-loop-again Inv-loop μ-loop
 unfolding slotInside
 loop-again c =
     let s = c .before .before .before in
-    (search needs, s .loop .inv .1 ∙ fail-next _ (s .loop .i) 8 (c .before .before .loop-test .taken) (sym (c .before .inside .ensures) ∙ not-false (c .if1 .left)))
+    (search needs, s .loop .inv .1 ∙ fail-next _ (s .loop .i) 8 (c .before .before .loop-test .taken) (sym (c .before .inside .ensures) ∙ not-false (c .if2 .left)))
 
-returns-2 : tie.Need-returns-2 Inv-loop μ-loop
+returns-3 : tie.Need-returns-3 Inv-loop μ-loop
 unfolding slotsOutside
-returns-2 c = (sym (c .before .loop .inv .1 ∙ fail-end _ (c .before .loop .i) 8 (c .loop-test .left)), search needs)
+returns-3 c = (sym (c .before .loop .inv .1 ∙ fail-end _ (c .before .loop .i) 8 (c .loop-test .left)), search needs)
 
 pub slots-outside-spec : {M : Type 1} → statement M
 slots-outside-spec =
@@ -62,14 +68,16 @@ slots-outside-spec =
     (tie.spec
     Inv-loop
     μ-loop
+    slots-inside-requires
+    returns
     loop-holds
     cast-inside
     mul-inside
     array-read-inside
     inside-requires
     add-result
-    returns
+    returns-2
     add-i
     loop-less
     loop-again
-    returns-2)
+    returns-3)

@@ -1,0 +1,62 @@
+-- `airframe::vectors_inside` meets its contract. Assumes nothing.
+use mathlib.Core.Bool.{Bool, cond, false}
+use Rattle.airframe.specs.Acceptance.{slotVecInside}
+use native.Mathlib.Nat.{le-antisymm}
+use Rattle.float.specs.Ordered.{allPass}
+use Rattle.float.proofs.Ordered.{pass-more}
+use borrow.Author.Needs.{needs}
+use mathlib.Core.Path.{_∙_, _≡_, ap, refl}
+use Prim.Native.Nat.{_-_, _≤_}
+use Rattle.airframe.proofs.vectors_inside.Statement.{statement}
+use Rattle.airframe.proofs.vectors_inside.Tie as tie
+
+abbrev Inv-loop : tie.InvT-loop
+Inv-loop limit vectors ok₀ i₀ ok i = (i ≤ 8) × (ok ≡ allPass (slotVecInside limit vectors) i)
+
+abbrev μ-loop : tie.MeasureT-loop
+μ-loop limit vectors ok₀ i₀ ok i = 8 - i
+
+loop-holds : tie.Need-loop-holds Inv-loop μ-loop
+unfolding allPass
+loop-holds c = (search needs, refl)
+
+mul-vec-inside : tie.Need-mul-vec-inside Inv-loop μ-loop
+mul-vec-inside c = search needs
+
+array-copy-out-vec-inside : tie.Need-array-copy-out-vec-inside Inv-loop μ-loop
+array-copy-out-vec-inside c = search needs
+
+vec-inside-requires : tie.Need-vec-inside-requires Inv-loop μ-loop
+vec-inside-requires c κs = search needs
+
+both-requires : tie.Need-both-requires Inv-loop μ-loop
+both-requires c κs = search needs
+
+add-i : tie.Need-add-i Inv-loop μ-loop
+add-i c = search needs
+
+loop-less : tie.Need-loop-less Inv-loop μ-loop
+loop-less c = search needs
+
+loop-again : tie.Need-loop-again Inv-loop μ-loop
+unfolding slotVecInside
+loop-again c = let s = c .before .before .before .before in (search needs, pass-more _ (s .loop .i) (s .loop .ok) _ (s .loop .inv .1) (c .both .ensures ∙ ap (λ (t : Bool). cond t (s .loop .ok) false) (c .before .vec-inside .ensures)))
+
+returns : tie.Need-returns Inv-loop μ-loop
+returns c = c .before .loop .inv .1 ∙ ap (allPass _) (le-antisymm (c .before .loop .inv .0) (c .loop-test .left))
+
+pub vectors-inside-spec : {M : Type 1} → statement M
+vectors-inside-spec =
+    tie.close
+    (tie.spec
+    Inv-loop
+    μ-loop
+    loop-holds
+    mul-vec-inside
+    array-copy-out-vec-inside
+    vec-inside-requires
+    both-requires
+    add-i
+    loop-less
+    loop-again
+    returns)
