@@ -3,6 +3,7 @@
 use std::fs;
 use std::path::{Path, PathBuf};
 
+use bench::raw;
 use oracle::arguments;
 use oracle::rng::Rng;
 use oracle::words::{answer, case, same};
@@ -10,15 +11,6 @@ use oracle::words::{answer, case, same};
 use crate::Found;
 use crate::progress::Progress;
 use crate::shrink;
-
-unsafe extern "C" {
-    safe fn bench_sqrtf(x: f32) -> f32;
-    safe fn bench_expf(x: f32) -> f32;
-    safe fn bench_sinf(x: f32) -> f32;
-    safe fn bench_cosf(x: f32) -> f32;
-    safe fn bench_asinf(s: f32) -> f32;
-    safe fn bench_atan2f(y: f32, x: f32) -> f32;
-}
 
 /// One function on both sides, and its arguments: fixed ones first, then random ones.
 struct Function {
@@ -37,42 +29,42 @@ const FUNCTIONS: [Function; 6] = [
     Function {
         name: "sqrtf",
         oracle: |x| libm::sqrtf(x[0]),
-        bench: |x| bench_sqrtf(x[0]),
+        bench: |x| raw::sqrtf(x[0]),
         fixed: || each(arguments::for_sqrt()),
         random: |rng| vec![arguments::random(rng, 1000.0)],
     },
     Function {
         name: "expf",
         oracle: |x| libm::expf(x[0]),
-        bench: |x| bench_expf(x[0]),
+        bench: |x| raw::expf(x[0]),
         fixed: || each(arguments::for_exp()),
         random: |rng| vec![arguments::random(rng, 90.0)],
     },
     Function {
         name: "sinf",
         oracle: |x| libm::sinf(x[0]),
-        bench: |x| bench_sinf(x[0]),
+        bench: |x| raw::sinf(x[0]),
         fixed: || each(arguments::for_sin_cos()),
         random: |rng| vec![arguments::random(rng, 4.0)],
     },
     Function {
         name: "cosf",
         oracle: |x| libm::cosf(x[0]),
-        bench: |x| bench_cosf(x[0]),
+        bench: |x| raw::cosf(x[0]),
         fixed: || each(arguments::for_sin_cos()),
         random: |rng| vec![arguments::random(rng, 4.0)],
     },
     Function {
         name: "asinf",
         oracle: |x| libm::asinf(x[0]),
-        bench: |x| bench_asinf(x[0]),
+        bench: |x| raw::asinf(x[0]),
         fixed: || each(arguments::for_asin()),
         random: |rng| vec![arguments::random(rng, 1.0)],
     },
     Function {
         name: "atan2f",
         oracle: |x| libm::atan2f(x[0], x[1]),
-        bench: |x| bench_atan2f(x[0], x[1]),
+        bench: |x| raw::atan2f(x[0], x[1]),
         fixed: || pairs(arguments::for_atan2()),
         random: |rng| pair(arguments::random_pair(rng)),
     },

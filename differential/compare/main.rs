@@ -1,12 +1,16 @@
-//! Compares the oracle with the Rattle side: `compare N SEED FOLDER PROGRAM`. One module for each
-//! thing compared; a difference is written, as small as it can be made, into FOLDER. PROGRAM is
-//! the Rattle fly; flights are left out where it is missing.
+//! Compares the oracle with the Rattle side: `compare N SEED FOLDER PROGRAM`, or the static library
+//! alone with `compare --library N SEED FOLDER`. One module for each thing compared; a difference
+//! is written, as small as it can be made, into FOLDER. PROGRAM is the Rattle fly; flights are left
+//! out where it is missing.
 
 mod flights;
 mod functions;
+mod library;
 mod progress;
 mod shrink;
+mod shrink_flight;
 
+use std::io;
 use std::path::{Path, PathBuf};
 use std::process::ExitCode;
 
@@ -28,31 +32,46 @@ impl Found {
 
 fn main() -> ExitCode {
     let arguments: Vec<String> = std::env::args().skip(1).collect();
-    let Some((n, seed, folder, program)) = read(&arguments) else {
+    let Some(found) = compare(&arguments) else {
         eprintln!("usage: compare N SEED FOLDER PROGRAM");
+        eprintln!("       compare --library N SEED FOLDER");
         return ExitCode::FAILURE;
     };
-    let mut found = functions::compare(n, seed, folder);
-    if program.is_file() {
-        match flights::compare(n, seed, folder, program) {
-            Ok(more) => found.add(more),
-            Err(error) => {
-                eprintln!("compare: {}: {error}", program.display());
-                return ExitCode::FAILURE;
-            }
+    match found {
+        Ok(found) => report(&found),
+        Err(error) => {
+            eprintln!("compare: {error}");
+            ExitCode::FAILURE
         }
+    }
+}
+
+/// None where the arguments are not those of the usage.
+fn compare(arguments: &[String]) -> Option<io::Result<Found>> {
+    let arguments: Vec<&str> = arguments.iter().map(String::as_str).collect();
+    let (alone, n, seed, folder, last) = match arguments.as_slice() {
+        ["--library", n, seed, folder] => (true, n, seed, folder, ""),
+        [n, seed, folder, program] => (false, n, seed, folder, *program),
+        _ => return None,
+    };
+    let (n, seed) = (n.parse().ok()?, seed.parse().ok()?);
+    let folder = Path::new(folder);
+    Some(if alone {
+        library::compare(n, seed, folder)
+    } else {
+        everything(n, seed, folder, Path::new(last))
+    })
+}
+
+fn everything(n: u64, seed: u64, folder: &Path, program: &Path) -> io::Result<Found> {
+    let mut found = functions::compare(n, seed, folder);
+    found.add(library::compare(n, seed, folder)?);
+    if program.is_file() {
+        found.add(flights::compare(n, seed, folder, program)?);
     } else {
         println!("flights: left out, {} is missing", program.display());
     }
-    report(&found)
-}
-
-fn read(arguments: &[String]) -> Option<(u64, u64, &Path, &Path)> {
-    let [n, seed, folder, program] = arguments else {
-        return None;
-    };
-    let (n, seed) = (n.parse().ok()?, seed.parse().ok()?);
-    Some((n, seed, Path::new(folder), Path::new(program)))
+    Ok(found)
 }
 
 fn report(found: &Found) -> ExitCode {

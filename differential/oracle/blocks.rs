@@ -250,7 +250,8 @@ impl State {
         Self::from_numbers(&[0; STATE_BYTES])
     }
 
-    fn from_numbers(bytes: &[u8; STATE_BYTES]) -> Self {
+    /// The numbers of a block, not tested.
+    pub fn from_numbers(bytes: &[u8; STATE_BYTES]) -> Self {
         State {
             position: numbers(bytes, 0),
             velocity: numbers(bytes, 12),

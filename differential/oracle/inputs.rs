@@ -424,6 +424,25 @@ pub fn flight(rng: &mut Rng, most: usize) -> Vec<u8> {
     bytes
 }
 
+/// A long input of fly: up to `most` ticks, mostly calm ones. Now and then a wild one comes between,
+/// and the commands of a tick are held for a while; one flight in five has wild ticks only.
+pub fn long_flight(rng: &mut Rng, most: usize) -> Vec<u8> {
+    let wild_once_in = rng.pick(&[1, 8, 32, 128, 1024]);
+    let held_once_in = rng.pick(&[2, 16, 64]);
+    let mut bytes = airframe(rng).bytes();
+    bytes.extend(state_bytes(&state(rng)));
+    let mut held = tick(rng, true);
+    for _ in 0..1 + rng.below(most) {
+        if rng.once_in(held_once_in) {
+            held = tick(rng, true);
+        }
+        let wild = rng.once_in(wild_once_in);
+        let one = if wild { tick(rng, false) } else { held };
+        push(&mut bytes, &one);
+    }
+    bytes
+}
+
 /// An input damaged in one place.
 pub fn damaged(rng: &mut Rng) -> Vec<u8> {
     let airframe = airframe(rng);

@@ -36,4 +36,5 @@ pub mod inputs;
 pub mod lists;
 pub mod mirror;
 pub mod rng;
+pub mod rows;
 pub mod words;

@@ -15,7 +15,7 @@ fn reflected_vectors(vectors: [Vec3; 8]) -> [Vec3; 8] {
 }
 
 /// Roll and yaw of motor torques and surface weights.
-fn reflected_airframe(airframe: &Airframe) -> Airframe {
+pub fn reflected_airframe(airframe: &Airframe) -> Airframe {
     Airframe {
         torques: reflected_vectors(airframe.torques),
         weights: reflected_vectors(airframe.weights),
@@ -28,7 +28,7 @@ fn east_negated([north, east, down]: [f32; 3]) -> [f32; 3] {
 }
 
 /// Position and velocity east, i, k, p, r.
-fn reflected_state(state: &State) -> State {
+pub fn reflected_state(state: &State) -> State {
     let [w, i, j, k] = state.attitude;
     let [p, q, r] = state.rates;
     State {

@@ -24,7 +24,7 @@ pub struct Report {
 }
 
 impl Report {
-    fn refused(refusal: Refusal) -> Self {
+    pub fn refused(refusal: Refusal) -> Self {
         Report {
             answer: refusal.number,
             place: refusal.place,

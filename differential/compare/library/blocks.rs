@@ -1,0 +1,62 @@
+//! Airframe and state blocks read, states written: replies, rows and bytes, also bytes not written.
+
+use bench::raw;
+use oracle::blocks::{Airframe, STATE_BYTES, State, read_airframe, read_state, write_state};
+use oracle::rows::{StateRow, airframe_row, state_of, state_row};
+
+use super::figures::Figures;
+use super::input::Input;
+use super::rows::{reply_to, same_numbers};
+
+/// What a row holds before a call.
+const UNWRITTEN: f32 = 12345.0;
+
+fn airframe_differs(block: &[u8]) -> bool {
+    let read = read_airframe(block);
+    let reply = reply_to(&read);
+    let expected = airframe_row(&read.unwrap_or(Airframe::zero()));
+    let mut row = [UNWRITTEN; 106];
+    raw::read_airframe(block) != reply
+        || raw::prepare(block, &mut row) != reply
+        || !same_numbers(&row, &expected)
+}
+
+fn state_differs(block: &[u8]) -> bool {
+    let read = read_state(block);
+    let reply = reply_to(&read);
+    let expected = state_row(&read.unwrap_or(State::zero()));
+    let mut row = [UNWRITTEN; 29];
+    raw::read_state(block, &mut row) != reply || !same_numbers(&row, &expected)
+}
+
+fn numbers(block: &[u8]) -> Vec<f32> {
+    let words = block.chunks_exact(4);
+    let bits = words.map(|word| u32::from_be_bytes([word[0], word[1], word[2], word[3]]));
+    bits.map(f32::from_bits).collect()
+}
+
+/// Bytes written are the same but for a NaN's bits; bytes not written are as found.
+fn written_alike(reply: u64, ours: &[u8], expected: &[u8]) -> bool {
+    ours == expected || (reply == 0 && same_numbers(&numbers(ours), &numbers(expected)))
+}
+
+fn write_differs(row: &StateRow, length: usize) -> bool {
+    let mut expected = vec![0xA5; length];
+    let mut ours = expected.clone();
+    let reply = reply_to(&write_state(&state_of(row), &mut expected));
+    raw::write_state(row, &mut ours) != reply || !written_alike(reply, &ours, &expected)
+}
+
+/// Whether a call differs on the input's own blocks, on all its bytes as one block, or on a block
+/// one byte short.
+pub fn differ(bytes: &[u8], figures: &mut Figures) -> bool {
+    let input = Input::of(bytes);
+    let short = |block: &[u8]| block[..block.len().saturating_sub(1)].to_vec();
+    let airframes = [input.airframe.to_vec(), short(input.airframe), bytes.into()];
+    let states = [input.state.to_vec(), short(input.state), bytes.into()];
+    let lengths = [STATE_BYTES, input.state.len(), bytes.len()];
+    figures.blocks += (airframes.len() + states.len() + lengths.len()) as u64;
+    airframes.iter().any(|block| airframe_differs(block))
+        || states.iter().any(|block| state_differs(block))
+        || (lengths.iter()).any(|length| write_differs(&input.start_row(), *length))
+}

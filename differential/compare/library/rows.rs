@@ -1,0 +1,35 @@
+//! Rows compared: as numbers where they were computed, by their bits where they must be as found.
+
+use oracle::blocks::Refusal;
+use oracle::words::same;
+
+pub fn same_numbers(a: &[f32], b: &[f32]) -> bool {
+    a.len() == b.len() && a.iter().zip(b).all(|(x, y)| same(*x, *y))
+}
+
+pub fn same_bits(a: &[f32], b: &[f32]) -> bool {
+    let mut pairs = a.iter().zip(b);
+    a.len() == b.len() && pairs.all(|(x, y)| x.to_bits() == y.to_bits())
+}
+
+/// A row as it must be: the numbers `computed`, or as `found` by its bits where refused.
+pub fn kept_or(accepted: bool, row: &[f32], found: &[f32], computed: &[f32]) -> bool {
+    if accepted {
+        same_numbers(row, computed)
+    } else {
+        same_bits(row, found)
+    }
+}
+
+/// The library's reply for an answer and its place.
+pub fn reply(number: u8, place: u8) -> u64 {
+    u64::from(number) + 16 * u64::from(place)
+}
+
+/// The reply for what a read gave.
+pub fn reply_to<T>(read: &Result<T, Refusal>) -> u64 {
+    match read {
+        Ok(_) => 0,
+        Err(refusal) => reply(refusal.number, refusal.place),
+    }
+}

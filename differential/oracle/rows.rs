@@ -1,0 +1,114 @@
+//! The library's rows of numbers: an airframe's 106, a state's 29, a tick's 20. A second reading of
+//! include/bench.h.
+
+use stable_flight::Vec3;
+
+use crate::blocks::{AIRFRAME_NUMBERS, Airframe, SLOTS, State, Tick, WASH_NUMBERS};
+
+pub type AirframeRow = [f32; 106];
+pub type StateRow = [f32; 29];
+pub type TickRow = [f32; 20];
+
+const FALLOFF_AT: usize = AIRFRAME_NUMBERS + WASH_NUMBERS;
+const WASH_AT: usize = FALLOFF_AT + 1;
+const USED_AT: usize = WASH_AT + 1;
+const TORQUES_AT: usize = USED_AT + SLOTS;
+const WEIGHTS_AT: usize = TORQUES_AT + 3 * SLOTS;
+
+/// `N` numbers of `row` from `at` on.
+fn part<const N: usize>(row: &[f32], at: usize) -> [f32; N] {
+    core::array::from_fn(|place| row[at + place])
+}
+
+fn put(row: &mut [f32], at: usize, numbers: &[f32]) {
+    row[at..at + numbers.len()].copy_from_slice(numbers);
+}
+
+fn put_vectors(row: &mut [f32], at: usize, vectors: &[Vec3; SLOTS]) {
+    for (slot, v) in vectors.iter().enumerate() {
+        put(row, at + 3 * slot, &[v.x, v.y, v.z]);
+    }
+}
+
+fn vectors(row: &[f32], at: usize) -> [Vec3; SLOTS] {
+    core::array::from_fn(|slot| {
+        let [x, y, z] = part(row, at + 3 * slot);
+        Vec3::new(x, y, z)
+    })
+}
+
+fn flag(set: bool) -> f32 {
+    if set { 1.0 } else { 0.0 }
+}
+
+/// Either zero is no, every other number and NaN is yes.
+fn is_set(number: f32) -> bool {
+    number != 0.0
+}
+
+pub fn airframe_row(airframe: &Airframe) -> AirframeRow {
+    let mut row = [0.0; 106];
+    put(&mut row, 0, &airframe.numbers);
+    put(
+        &mut row,
+        AIRFRAME_NUMBERS,
+        &airframe.wash.unwrap_or_default(),
+    );
+    row[FALLOFF_AT] = flag(airframe.pitch_speed);
+    row[WASH_AT] = flag(airframe.wash.is_some());
+    put(&mut row, USED_AT, &airframe.used.map(flag));
+    put_vectors(&mut row, TORQUES_AT, &airframe.torques);
+    put_vectors(&mut row, WEIGHTS_AT, &airframe.weights);
+    row
+}
+
+pub fn airframe_of(row: &AirframeRow) -> Airframe {
+    Airframe {
+        pitch_speed: is_set(row[FALLOFF_AT]),
+        numbers: part(row, 0),
+        wash: is_set(row[WASH_AT]).then(|| part(row, AIRFRAME_NUMBERS)),
+        used: part::<SLOTS>(row, USED_AT).map(is_set),
+        torques: vectors(row, TORQUES_AT),
+        weights: vectors(row, WEIGHTS_AT),
+    }
+}
+
+pub fn state_row(state: &State) -> StateRow {
+    let mut row = [0.0; 29];
+    put(&mut row, 0, &state.position);
+    put(&mut row, 3, &state.velocity);
+    put(&mut row, 6, &state.attitude);
+    put(&mut row, 10, &state.rates);
+    put(&mut row, 13, &state.motors);
+    put(&mut row, 21, &state.servos);
+    row
+}
+
+pub fn state_of(row: &StateRow) -> State {
+    State {
+        position: part(row, 0),
+        velocity: part(row, 3),
+        attitude: part(row, 6),
+        rates: part(row, 10),
+        motors: part(row, 13),
+        servos: part(row, 21),
+    }
+}
+
+pub fn tick_row(tick: &Tick) -> TickRow {
+    let mut row = [0.0; 20];
+    row[0] = tick.step;
+    put(&mut row, 1, &tick.wind);
+    put(&mut row, 4, &tick.motors);
+    put(&mut row, 12, &tick.servos);
+    row
+}
+
+pub fn tick_of(row: &TickRow) -> Tick {
+    Tick {
+        step: row[0],
+        wind: part(row, 1),
+        motors: part(row, 4),
+        servos: part(row, 12),
+    }
+}
