@@ -1,0 +1,311 @@
+//! The library's calls on one case, each with what must hold after it.
+
+use bench::raw;
+
+use crate::guarded::{Element, Guarded};
+use crate::make::{Case, numbers};
+use crate::watch;
+
+pub const NAMES: [&str; 8] = [
+    "bench_read_airframe",
+    "bench_prepare",
+    "bench_read_state",
+    "bench_write_state",
+    "bench_tick",
+    "bench_tick_prepared",
+    "bench_run",
+    "bench_mirrored_pair",
+];
+
+const READ_AIRFRAME: usize = 0;
+const PREPARE: usize = 1;
+const READ_STATE: usize = 2;
+const WRITE_STATE: usize = 3;
+const TICK: usize = 4;
+const TICK_PREPARED: usize = 5;
+const RUN: usize = 6;
+const PAIR: usize = 7;
+
+/// What went wrong, in words.
+type Held = Result<(), String>;
+
+/// How many calls were made, by name and by answer.
+#[derive(Default)]
+pub struct Counts {
+    pub calls: [u64; 8],
+    pub answers: [u64; 10],
+}
+
+fn hold(holds: bool, call: usize, what: &str) -> Held {
+    if holds {
+        Ok(())
+    } else {
+        Err(format!("{}: {what}", NAMES[call]))
+    }
+}
+
+/// One call, watched over; its reply must be one of the ten answers, with a place for 6 only.
+fn made(counts: &mut Counts, call: usize, run: impl FnOnce() -> u64) -> Result<u64, String> {
+    watch::begin(call);
+    let reply = run();
+    watch::end();
+    let (answer, place) = (reply % 16, reply / 16);
+    let known = match answer {
+        6 => (1..=51).contains(&place),
+        _ => answer < 10 && place == 0,
+    };
+    hold(known, call, &format!("reply {reply}"))?;
+    counts.calls[call] += 1;
+    counts.answers[answer as usize] += 1;
+    Ok(reply)
+}
+
+fn whole<T: Element>(buffer: &Guarded<T>, call: usize) -> Held {
+    hold(buffer.guards_whole(), call, "wrote outside a buffer")
+}
+
+/// A buffer that was only lent to be read, or that a refusal leaves.
+fn left<T: Element>(buffer: &Guarded<T>, call: usize) -> Held {
+    whole(buffer, call)?;
+    hold(buffer.as_found(), call, "a buffer is not as found")
+}
+
+fn zeros(row: &Guarded<f32>) -> bool {
+    row.content().iter().all(|x| *x == 0.0)
+}
+
+/// A row read into: as found where its length is wrong, zeros where the block is refused.
+fn read_into(row: &Guarded<f32>, right: usize, reply: u64, call: usize) -> Held {
+    if row.content().len() != right {
+        hold(reply == 1, call, "took a row of another length")?;
+        return left(row, call);
+    }
+    whole(row, call)?;
+    hold(reply == 0 || zeros(row), call, "a refused block, no zeros")
+}
+
+/// The reply to the case's airframe block.
+fn airframe(counts: &mut Counts, case: &Case) -> Result<u64, String> {
+    let block = Guarded::of(&case.block);
+    let reply = made(counts, READ_AIRFRAME, || {
+        raw::read_airframe(block.content())
+    })?;
+    left(&block, READ_AIRFRAME)?;
+    Ok(reply)
+}
+
+fn prepare(counts: &mut Counts, case: &Case, read: u64) -> Held {
+    let block = Guarded::of(&case.block);
+    let mut row = Guarded::of(&case.airframe);
+    let reply = made(counts, PREPARE, || {
+        raw::prepare(block.content(), row.lent())
+    })?;
+    left(&block, PREPARE)?;
+    read_into(&row, 106, reply, PREPARE)?;
+    let same = case.airframe.len() != 106 || reply == read;
+    hold(same, PREPARE, "another reply than bench_read_airframe")
+}
+
+fn read_state(counts: &mut Counts, case: &Case) -> Held {
+    let block = Guarded::of(&case.state_block);
+    let mut row = Guarded::of(&case.state);
+    let reply = made(counts, READ_STATE, || {
+        raw::read_state(block.content(), row.lent())
+    })?;
+    left(&block, READ_STATE)?;
+    read_into(&row, 29, reply, READ_STATE)?;
+    let length = case.state.len() == 29 && case.state_block.len() == 116;
+    hold(length == (reply != 1), READ_STATE, "wrong about a length")
+}
+
+/// The bytes written are the row's numbers, but for a NaN's bits.
+fn written(block: &[u8], row: &[f32]) -> bool {
+    let mut pairs = numbers(block).into_iter().zip(row);
+    pairs.all(|(x, y)| x.to_bits() == y.to_bits() || (x.is_nan() && y.is_nan()))
+}
+
+fn write_state(counts: &mut Counts, case: &Case) -> Held {
+    let row = Guarded::of(&case.state);
+    let mut block = Guarded::of(&case.lent_block);
+    let reply = made(counts, WRITE_STATE, || {
+        raw::write_state(row.content(), block.lent())
+    })?;
+    left(&row, WRITE_STATE)?;
+    if case.state.len() != 29 || case.lent_block.len() != 116 {
+        hold(reply == 1, WRITE_STATE, "took another length")?;
+        return left(&block, WRITE_STATE);
+    }
+    whole(&block, WRITE_STATE)?;
+    let good = reply == 0 && written(block.content(), row.content());
+    hold(good, WRITE_STATE, "other bytes than the row's")
+}
+
+/// Whether a row is a state within the envelope, by the library's own reading.
+fn inside(row: &[f32]) -> bool {
+    let mut block = [0; 116];
+    let mut read = [0.0; 29];
+    raw::write_state(row, &mut block) == 0 && raw::read_state(&block, &mut read) == 0
+}
+
+/// The rows of a tick: state, tick and report.
+struct TickRows {
+    state: Guarded<f32>,
+    tick: Guarded<f32>,
+    report: Guarded<f32>,
+}
+
+impl TickRows {
+    fn of(case: &Case) -> Self {
+        TickRows {
+            state: Guarded::of(&case.state),
+            tick: Guarded::of(&case.tick),
+            report: Guarded::of(&case.report),
+        }
+    }
+
+    fn fit(&self) -> bool {
+        let lengths = [&self.state, &self.tick, &self.report].map(|row| row.content().len());
+        lengths == [29, 20, 3]
+    }
+
+    /// What must hold of them after a tick.
+    fn after(&self, fit: bool, reply: u64, call: usize) -> Held {
+        left(&self.tick, call)?;
+        whole(&self.state, call)?;
+        whole(&self.report, call)?;
+        if reply == 0 {
+            hold(fit, call, "took a row of another length")?;
+            return hold(inside(self.state.content()), call, "a state outside");
+        }
+        left(&self.state, call)?;
+        if fit {
+            return hold(zeros(&self.report), call, "refused, but reports no zeros");
+        }
+        hold(reply == 1, call, "rows of another length, not 1")?;
+        left(&self.report, call)
+    }
+}
+
+/// The state after a tick through the block.
+fn tick(counts: &mut Counts, case: &Case) -> Result<(u64, Vec<f32>), String> {
+    let block = Guarded::of(&case.block);
+    let mut rows = TickRows::of(case);
+    let reply = made(counts, TICK, || {
+        let state = rows.state.lent();
+        raw::tick(
+            block.content(),
+            state,
+            rows.tick.content(),
+            rows.report.lent(),
+        )
+    })?;
+    left(&block, TICK)?;
+    rows.after(rows.fit(), reply, TICK)?;
+    Ok((reply, rows.state.content().to_vec()))
+}
+
+fn prepared_tick(counts: &mut Counts, case: &Case, row: &[f32]) -> Result<(u64, Vec<f32>), String> {
+    let airframe = Guarded::of(row);
+    let mut rows = TickRows::of(case);
+    let reply = made(counts, TICK_PREPARED, || {
+        let state = rows.state.lent();
+        raw::tick_prepared(
+            airframe.content(),
+            state,
+            rows.tick.content(),
+            rows.report.lent(),
+        )
+    })?;
+    left(&airframe, TICK_PREPARED)?;
+    rows.after(rows.fit() && row.len() == 106, reply, TICK_PREPARED)?;
+    Ok((reply, rows.state.content().to_vec()))
+}
+
+fn same_bits(a: &[f32], b: &[f32]) -> bool {
+    a.len() == b.len() && a.iter().zip(b).all(|(x, y)| x.to_bits() == y.to_bits())
+}
+
+/// A tick through the block, one through any row and, for an accepted block, one through its own
+/// row, which must give the same.
+fn ticks(counts: &mut Counts, case: &Case, read: u64) -> Held {
+    let (reply, state) = tick(counts, case)?;
+    prepared_tick(counts, case, &case.airframe)?;
+    if read != 0 {
+        return Ok(());
+    }
+    let mut own = [0.0; 106];
+    raw::prepare(&case.block, &mut own);
+    let (other, same) = prepared_tick(counts, case, &own)?;
+    let alike = reply == other && same_bits(&state, &same);
+    hold(alike, TICK_PREPARED, "another tick than bench_tick's")
+}
+
+/// The reply a run must give: for the row, the airframe, then the trace.
+fn run_reply(case: &Case, fit: bool, read: u64) -> u64 {
+    match (fit, read) {
+        (false, _) => 1,
+        (true, 0) => u64::from(!case.trace.len().is_multiple_of(80)),
+        (true, refused) => refused,
+    }
+}
+
+fn after_run(row: &Guarded<f32>, reply: u64, count: u64, case: &Case, call: usize) -> Held {
+    whole(row, call)?;
+    let most = case.trace.len() as u64 / 80;
+    hold(count <= most, call, "more accepted ticks than ticks")?;
+    if reply != 0 {
+        hold(count == 0, call, "refused, but counts ticks")?;
+        return left(row, call);
+    }
+    let held = count == 0 || inside(row.content());
+    hold(held, call, "a state outside")
+}
+
+fn run(counts: &mut Counts, case: &Case, read: u64) -> Held {
+    let (block, trace) = (Guarded::of(&case.block), Guarded::of(&case.trace));
+    let mut state = Guarded::of(&case.state);
+    let mut accepted = u64::MAX;
+    let reply = made(counts, RUN, || {
+        raw::run(
+            block.content(),
+            state.lent(),
+            trace.content(),
+            &mut accepted,
+        )
+    })?;
+    left(&block, RUN)?;
+    left(&trace, RUN)?;
+    let right = run_reply(case, case.state.len() == 29, read);
+    hold(reply == right, RUN, "another reply than its parts give")?;
+    after_run(&state, reply, accepted, case, RUN)
+}
+
+fn pair(counts: &mut Counts, case: &Case, read: u64) -> Held {
+    let (block, trace) = (Guarded::of(&case.block), Guarded::of(&case.trace));
+    let mut state = Guarded::of(&case.state);
+    let mut reflected = Guarded::of(&case.reflected);
+    let mut both = [u64::MAX; 2];
+    let reply = made(counts, PAIR, || {
+        let (first, second) = (state.lent(), reflected.lent());
+        raw::mirrored_pair(block.content(), first, second, trace.content(), &mut both)
+    })?;
+    left(&block, PAIR)?;
+    left(&trace, PAIR)?;
+    let fit = case.state.len() == 29 && case.reflected.len() == 29;
+    let right = run_reply(case, fit, read);
+    hold(reply == right, PAIR, "another reply than its parts give")?;
+    hold(both[0] == both[1], PAIR, "the counts differ")?;
+    after_run(&state, reply, both[0], case, PAIR)?;
+    after_run(&reflected, reply, both[1], case, PAIR)
+}
+
+/// All calls on one case.
+pub fn all(counts: &mut Counts, case: &Case) -> Held {
+    let read = airframe(counts, case)?;
+    prepare(counts, case, read)?;
+    read_state(counts, case)?;
+    write_state(counts, case)?;
+    ticks(counts, case, read)?;
+    run(counts, case, read)?;
+    pair(counts, case, read)
+}
