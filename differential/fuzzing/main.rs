@@ -6,6 +6,7 @@
 mod calls;
 mod guarded;
 mod make;
+mod region;
 #[allow(dead_code)]
 #[path = "../oracle/rng.rs"]
 mod rng;
