@@ -13,6 +13,13 @@ use super::rows::{kept_or, reply, same_numbers};
 /// What a report's row holds before a call.
 const UNWRITTEN: f32 = 12345.0;
 
+/// A tick of 0.01 s in still air without commands.
+const CALM: TickRow = {
+    let mut row = [0.0; 20];
+    row[0] = 0.01;
+    row
+};
+
 /// One side's state in the library, and what its last call gave.
 pub struct Side {
     state: StateRow,
@@ -74,7 +81,8 @@ fn expected_prepared(
     }
 }
 
-/// Flies the input's ticks on all sides; none where one differs.
+/// Flies the input's ticks on all sides; none where one differs. A refused block, which may have no
+/// tick behind it, gets one more.
 pub fn fly(input: &Input, figures: &mut Figures) -> Option<Flown> {
     let read = input.read();
     let mut prepared = [0.0; 106];
@@ -82,7 +90,8 @@ pub fn fly(input: &Input, figures: &mut Figures) -> Option<Flown> {
     let (mut state, mut accepted) = (input.start(), 0);
     let mut by_block = Side::new(input.start_row());
     let mut by_row = Side::new(input.start_row());
-    for row in input.ticks() {
+    let one_more = read.is_err().then_some(CALM);
+    for row in input.ticks().chain(one_more) {
         let one = expected(&read, &state, &row);
         let other = expected_prepared(&read, &one, &state, &row);
         by_block.call(|state, report| raw::tick(input.airframe, state, &row, report));
