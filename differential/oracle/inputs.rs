@@ -424,17 +424,30 @@ pub fn flight(rng: &mut Rng, most: usize) -> Vec<u8> {
     bytes
 }
 
-/// A long input of fly: up to `most` ticks, mostly calm ones. Now and then a wild one comes between,
-/// and the commands of a tick are held for a while; one flight in five has wild ticks only.
+/// A calm tick; where `steps` vary, its step is any that is accepted.
+fn calm_tick(rng: &mut Rng, steps: bool) -> [f32; 20] {
+    let (least, most) = limits::STEP_S;
+    let mut calm = tick(rng, true);
+    if steps {
+        let any = rng.between(least, most);
+        calm[0] = rng.pick(&[least, most, 1.0 / 256.0, 0.01, any]);
+    }
+    calm
+}
+
+/// A long input of fly: up to `most` ticks, mostly calm ones, each held for a while. Now and then a
+/// wild one comes between; one flight in five has wild ticks only. In every other flight the step
+/// changes with the tick that is held.
 pub fn long_flight(rng: &mut Rng, most: usize) -> Vec<u8> {
     let wild_once_in = rng.pick(&[1, 8, 32, 128, 1024]);
     let held_once_in = rng.pick(&[2, 16, 64]);
+    let steps = rng.once_in(2);
     let mut bytes = airframe(rng).bytes();
     bytes.extend(state_bytes(&state(rng)));
-    let mut held = tick(rng, true);
+    let mut held = calm_tick(rng, steps);
     for _ in 0..1 + rng.below(most) {
         if rng.once_in(held_once_in) {
-            held = tick(rng, true);
+            held = calm_tick(rng, steps);
         }
         let wild = rng.once_in(wild_once_in);
         let one = if wild { tick(rng, false) } else { held };
