@@ -111,8 +111,8 @@ uint64_t bench_prepare(const uint8_t *block, size_t block_len, float *airframe, 
  * rates within 100 rad/s, ((i*i + j*j) + k*k) + w*w in 0.9..1.1, motors 0..1, servos -1..1; NaN is outside. */
 uint64_t bench_read_state(const uint8_t *block, size_t block_len, float *state, size_t state_len);
 
-/* Writes a state's row of 29 floats into a block of 116 bytes. The numbers are not tested. A row or a block of another length gets 1
- * and the block is left as found. */
+/* Writes a state's row of 29 floats into a block of 116 bytes. The numbers are not tested. A row or a block of another length
+ * gets 1 and the block is left as found. */
 uint64_t bench_write_state(const float *state, size_t state_len, uint8_t *block, size_t block_len);
 
 /* ---- A tick ---- */
