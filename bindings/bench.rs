@@ -4,7 +4,7 @@
 //! length, and the bench answers for them. An [`Airframe`] is one that the bench has accepted.
 
 // A program may call only some of it.
-#![allow(dead_code)]
+#![allow(dead_code, unused_imports)]
 
 use std::error::Error;
 use std::fmt;
