@@ -306,13 +306,10 @@ fn vectors_outside(vectors: [Vec3; 8], limit: f32, place: u32) -> u32
 fn vec_inside(v: Vec3, limit: f32) -> bool
     ensures { λ r. ⌜ r ≡ Acceptance.vecInside limit v ⌝ }
 {
-    if float::inside(v.x, -limit, limit) {
-        if float::inside(v.y, -limit, limit) {
-            return float::inside(v.z, -limit, limit);
-        }
-        return false;
-    }
-    false
+    let x = float::inside(v.x, -limit, limit);
+    let y = float::inside(v.y, -limit, limit);
+    let z = float::inside(v.z, -limit, limit);
+    float::both(float::both(z, y), x)
 }
 
 impl Airframe {
