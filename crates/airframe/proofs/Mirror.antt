@@ -13,7 +13,8 @@ use Rattle.mixers.specs.Slots.{vecAt}
 use Rattle.vector.proofs.Mirror.{reflect-axis}
 use Rattle.vector.specs.Reflection.{VecRel, reflectAxis}
 use Rattle.vector.specs.declared.Vec3.{Vec3}
-use Rattle.airframe.specs.Acceptance.{refusedPlace, slotVecInside, vecInside, vectorsOutside}
+use Rattle.vector.specs.Vector.{vecInside}
+use Rattle.airframe.specs.Acceptance.{refusedPlace, slotVecInside, vectorsOutside}
 use Rattle.airframe.specs.Numbers.{numbersOf}
 use Rattle.airframe.specs.Reflection.{AirframeRel, reflectAirframe}
 use Rattle.airframe.specs.declared.Airframe.{Airframe}

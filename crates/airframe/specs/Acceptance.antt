@@ -12,6 +12,7 @@ use Rattle.float.specs.Interval.{inside}
 use Rattle.float.specs.Notation.{nought, rounded}
 use Rattle.float.specs.Ordered.{firstFail, orElse}
 use Rattle.mixers.specs.Slots.{at, vecAt}
+use Rattle.vector.specs.Vector.{vecInside}
 use Rattle.vector.specs.declared.Vec3.{Vec3}
 use Rattle.airframe.specs.Numbers.{numbersOf}
 use Rattle.airframe.specs.declared.Airframe.{Airframe}
@@ -51,9 +52,6 @@ unfoldable pub firstOutside : List Float → List Float → ℕ → ℕ
 firstOutside low numbers count = firstFail (placeInside low numbers) 0 count
 
 -- motor torques ±100 (50), surface weights ±101 (51): over all 8 slots and three axes
-unfoldable pub vecInside : Float → Vec3 → Bool
-vecInside limit v = cond (inside (neg limit) limit (v .x)) (cond (inside (neg limit) limit (v .y)) (inside (neg limit) limit (v .z)) false) false
-
 unfoldable pub slotVecInside : Float → List Vec3 → ℕ → Bool
 slotVecInside limit vs k = vecInside limit (vecAt vs k)
 

@@ -287,7 +287,7 @@ fn vectors_inside(vectors: [Vec3; 8], limit: f32) -> bool
     let mut ok = true;
     let mut i = 0usize;
     while i < 8 {
-        ok = float::both(ok, vec_inside(vectors[i], limit));
+        ok = float::both(ok, vectors[i].is_inside(limit));
         i += 1;
     }
     ok
@@ -301,15 +301,6 @@ fn vectors_outside(vectors: [Vec3; 8], limit: f32, place: u32) -> u32
         return 0;
     }
     place
-}
-
-fn vec_inside(v: Vec3, limit: f32) -> bool
-    ensures { λ r. ⌜ r ≡ Acceptance.vecInside limit v ⌝ }
-{
-    let x = float::inside(v.x, -limit, limit);
-    let y = float::inside(v.y, -limit, limit);
-    let z = float::inside(v.z, -limit, limit);
-    float::both(float::both(z, y), x)
 }
 
 impl Airframe {

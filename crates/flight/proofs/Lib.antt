@@ -1,3 +1,4 @@
 -- Laws of the flight state.
 pub mod Range
+pub mod Inside
 pub mod Mirror

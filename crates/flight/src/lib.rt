@@ -133,7 +133,17 @@ impl Flight {
     pub fn is_inside(self) -> bool
         ensures { λ r. ⌜ r ≡ Envelope.isInside self ⌝ }
     {
-        self.outside() == 0
+        let running = self.motors;
+        let positions = self.servos;
+        let slots = float::both(
+            slots_inside(running, 0.0, 1.0),
+            slots_inside(positions, -1.0, 1.0),
+        );
+        let attitude = float::inside(self.attitude.norm_squared(), 0.9, 1.1);
+        let turning = float::both(attitude, self.angular_velocity_radps.is_inside(100.0));
+        let moving = float::both(self.velocity_ned_mps.is_inside(1000.0), turning);
+        let position = self.position_ned_m.is_inside(1000000.0);
+        float::both(position, float::both(moving, slots))
     }
 }
 

@@ -20,14 +20,14 @@ loop-holds : tie.Need-loop-holds Inv-loop μ-loop
 unfolding allPass
 loop-holds c = (search needs, refl)
 
-mul-vec-inside : tie.Need-mul-vec-inside Inv-loop μ-loop
-mul-vec-inside c = search needs
+mul-is-inside : tie.Need-mul-is-inside Inv-loop μ-loop
+mul-is-inside c = search needs
 
-array-copy-out-vec-inside : tie.Need-array-copy-out-vec-inside Inv-loop μ-loop
-array-copy-out-vec-inside c = search needs
+array-copy-out-is-inside : tie.Need-array-copy-out-is-inside Inv-loop μ-loop
+array-copy-out-is-inside c = search needs
 
-vec-inside-requires : tie.Need-vec-inside-requires Inv-loop μ-loop
-vec-inside-requires c κs = search needs
+is-inside-requires : tie.Need-is-inside-requires Inv-loop μ-loop
+is-inside-requires c κs = search needs
 
 both-requires : tie.Need-both-requires Inv-loop μ-loop
 both-requires c κs = search needs
@@ -40,7 +40,7 @@ loop-less c = search needs
 
 loop-again : tie.Need-loop-again Inv-loop μ-loop
 unfolding slotVecInside
-loop-again c = let s = c .before .before .before .before in (search needs, pass-more _ (s .loop .i) (s .loop .ok) _ (s .loop .inv .1) (c .both .ensures ∙ ap (λ (t : Bool). cond t (s .loop .ok) false) (c .before .vec-inside .ensures)))
+loop-again c = let s = c .before .before .before .before in (search needs, pass-more _ (s .loop .i) (s .loop .ok) _ (s .loop .inv .1) (c .both .ensures ∙ ap (λ (t : Bool). cond t (s .loop .ok) false) (c .before .is-inside .ensures)))
 
 returns : tie.Need-returns Inv-loop μ-loop
 returns c = c .before .loop .inv .1 ∙ ap (allPass _) (le-antisymm (c .before .loop .inv .0) (c .loop-test .left))
@@ -52,9 +52,9 @@ vectors-inside-spec =
     Inv-loop
     μ-loop
     loop-holds
-    mul-vec-inside
-    array-copy-out-vec-inside
-    vec-inside-requires
+    mul-is-inside
+    array-copy-out-is-inside
+    is-inside-requires
     both-requires
     add-i
     loop-less
