@@ -1,92 +1,96 @@
 // Whether two ticks mirror each other, as numbers: zeros alike, NaNs alike.
+ghost use mathlib.Core.Path.{_≡_};
+ghost use Rattle.float.specs.Ordered.{allPass};
+ghost use Rattle.mirror.specs.Compare as Compare;
 use flight::Flight;
 use vector::Quaternion;
 use vector::Vec3;
 use wing::Report;
 use wing::Ticked;
 
-fn same(x: f32, y: f32) -> bool {
-    lines::shown(x) == lines::shown(y)
+fn same(x: f32, y: f32) -> bool
+    ensures { λ r. ⌜ r ≡ Compare.sameNumber x y ⌝ }
+{
+    if x != x {
+        return y != y;
+    }
+    x == y
 }
 
-fn same_vec(v: Vec3, w: Vec3) -> bool {
-    if !same(v.x, w.x) {
-        return false;
-    }
-    if !same(v.y, w.y) {
-        return false;
-    }
-    same(v.z, w.z)
+fn same_vec(v: Vec3, w: Vec3) -> bool
+    ensures { λ r. ⌜ r ≡ Compare.sameVec v w ⌝ }
+{
+    let x = same(v.x, w.x);
+    let y = same(v.y, w.y);
+    let z = same(v.z, w.z);
+    float::both(float::both(x, y), z)
 }
 
-fn same_attitude(p: Quaternion, q: Quaternion) -> bool {
-    if !same(p.w, q.w) {
-        return false;
-    }
-    if !same(p.i, q.i) {
-        return false;
-    }
-    if !same(p.j, q.j) {
-        return false;
-    }
-    same(p.k, q.k)
+fn same_attitude(p: Quaternion, q: Quaternion) -> bool
+    ensures { λ r. ⌜ r ≡ Compare.sameAttitude p q ⌝ }
+{
+    let w = same(p.w, q.w);
+    let i = same(p.i, q.i);
+    let j = same(p.j, q.j);
+    let k = same(p.k, q.k);
+    float::both(float::both(w, i), float::both(j, k))
 }
 
-fn same_slots(xs: [f32; 8], ys: [f32; 8]) -> bool {
-    let mut i = 0;
+fn same_slots(xs: [f32; 8], ys: [f32; 8]) -> bool
+    ensures { λ r. ⌜ r ≡ allPass (Compare.sameSlot xs ys) 8 ⌝ }
+{
+    let mut ok = true;
+    let mut i = 0usize;
     while i < 8 {
-        if !same(xs[i], ys[i]) {
-            return false;
-        }
+        ok = float::both(ok, same(xs[i], ys[i]));
         i += 1;
     }
-    true
+    ok
 }
 
-fn same_flight(f: Flight, g: Flight) -> bool {
-    if !same_vec(f.position_ned_m, g.position_ned_m) {
-        return false;
-    }
-    if !same_vec(f.velocity_ned_mps, g.velocity_ned_mps) {
-        return false;
-    }
-    if !same_attitude(f.attitude, g.attitude) {
-        return false;
-    }
-    if !same_vec(f.angular_velocity_radps, g.angular_velocity_radps) {
-        return false;
-    }
+fn same_body(f: Flight, g: Flight) -> bool
+    ensures { λ r. ⌜ r ≡ Compare.sameBody f g ⌝ }
+{
+    let position = same_vec(f.position_ned_m, g.position_ned_m);
+    let velocity = same_vec(f.velocity_ned_mps, g.velocity_ned_mps);
+    let attitude = same_attitude(f.attitude, g.attitude);
+    let rates = same_vec(f.angular_velocity_radps, g.angular_velocity_radps);
+    float::both(
+        float::both(position, velocity),
+        float::both(attitude, rates),
+    )
+}
+
+fn same_flight(f: Flight, g: Flight) -> bool
+    ensures { λ r. ⌜ r ≡ Compare.sameFlight f g ⌝ }
+{
     let running = f.motors;
     let running_too = g.motors;
-    if !same_slots(running, running_too) {
-        return false;
-    }
     let positions = f.servos;
     let positions_too = g.servos;
-    same_slots(positions, positions_too)
+    let motors = same_slots(running, running_too);
+    let servos = same_slots(positions, positions_too);
+    float::both(same_body(f, g), float::both(motors, servos))
 }
 
 // The same answer, alpha and thrust; beta negated.
-fn mirrored_report(x: Report, y: Report) -> bool {
+fn mirrored_report(x: Report, y: Report) -> bool
+    ensures { λ r. ⌜ r ≡ Compare.mirroredReport x y ⌝ }
+{
     let ours = x.answer;
     let theirs = y.answer;
-    if ours.number() != theirs.number() {
-        return false;
-    }
-    if !same(x.alpha_rad, y.alpha_rad) {
-        return false;
-    }
-    if !same(x.thrust_n, y.thrust_n) {
-        return false;
-    }
-    same(-x.beta_rad, y.beta_rad)
+    let answer = ours.number() == theirs.number();
+    let alpha = same(x.alpha_rad, y.alpha_rad);
+    let thrust = same(x.thrust_n, y.thrust_n);
+    let beta = same(-x.beta_rad, y.beta_rad);
+    float::both(float::both(answer, alpha), float::both(thrust, beta))
 }
 
 // Whether y is what the tick of x gives in the reflection.
-pub fn is_mirrored(x: Ticked, y: Ticked) -> bool {
+pub fn is_mirrored(x: Ticked, y: Ticked) -> bool
+    ensures { λ r. ⌜ r ≡ Compare.mirroredTick x y ⌝ }
+{
     let f = x.flight;
-    if !mirrored_report(x.report, y.report) {
-        return false;
-    }
-    same_flight(f.reflected(), y.flight)
+    let report = mirrored_report(x.report, y.report);
+    float::both(report, same_flight(f.reflected(), y.flight))
 }

@@ -1,17 +1,24 @@
 -- `mirror::compare::same_slots` meets its contract. Assumes nothing.
-use Prim.Native.Nat.{_-_, _≤_}
+use mathlib.Core.Bool.{Bool, cond, false}
+use Rattle.mirror.specs.Compare.{sameSlot}
+use native.Mathlib.Nat.{le-antisymm}
+use Rattle.float.specs.Ordered.{allPass}
+use Rattle.float.proofs.Ordered.{pass-more}
 use borrow.Author.Needs.{needs}
+use mathlib.Core.Path.{_∙_, _≡_, ap, refl}
+use Prim.Native.Nat.{_-_, _≤_}
 use Rattle.mirror.proofs.compare.same_slots.Statement.{statement}
 use Rattle.mirror.proofs.compare.same_slots.Tie as tie
 
 abbrev Inv-loop : tie.InvT-loop
-Inv-loop xs ys i₀ i = i ≤ 8
+Inv-loop xs ys ok₀ i₀ ok i = (i ≤ 8) × (ok ≡ allPass (sameSlot xs ys) i)
 
 abbrev μ-loop : tie.MeasureT-loop
-μ-loop xs ys i₀ i = 8 - i
+μ-loop xs ys ok₀ i₀ ok i = 8 - i
 
 loop-holds : tie.Need-loop-holds Inv-loop μ-loop
-loop-holds c = search needs
+unfolding allPass
+loop-holds c = (search needs, refl)
 
 mul-same : tie.Need-mul-same Inv-loop μ-loop
 mul-same c = search needs
@@ -28,8 +35,8 @@ array-read-same-2 c = search needs
 same-requires : tie.Need-same-requires Inv-loop μ-loop
 same-requires c κs = search needs
 
-returns : tie.Need-returns Inv-loop μ-loop
-returns c = search needs
+both-requires : tie.Need-both-requires Inv-loop μ-loop
+both-requires c κs = search needs
 
 add-i : tie.Need-add-i Inv-loop μ-loop
 add-i c = search needs
@@ -38,10 +45,11 @@ loop-less : tie.Need-loop-less Inv-loop μ-loop
 loop-less c = search needs
 
 loop-again : tie.Need-loop-again Inv-loop μ-loop
-loop-again c = search needs
+unfolding sameSlot
+loop-again c = let s = c .before .before .before in (search needs, pass-more _ (s .loop .i) (s .loop .ok) _ (s .loop .inv .1) (c .both .ensures ∙ ap (λ (t : Bool). cond t (s .loop .ok) false) (c .before .same .ensures)))
 
-returns-2 : tie.Need-returns-2 Inv-loop μ-loop
-returns-2 c = search needs
+returns : tie.Need-returns Inv-loop μ-loop
+returns c = c .before .loop .inv .1 ∙ ap (allPass _) (le-antisymm (c .before .loop .inv .0) (c .loop-test .left))
 
 pub same-slots-spec : {M : Type 1} → statement M
 same-slots-spec =
@@ -55,8 +63,8 @@ same-slots-spec =
     mul-same-2
     array-read-same-2
     same-requires
-    returns
+    both-requires
     add-i
     loop-less
     loop-again
-    returns-2)
+    returns)

@@ -1,0 +1,35 @@
+-- `mirror::compare::same_flight` meets its contract. Assumes nothing.
+use Rattle.mirror.specs.Compare.{sameFlight}
+use borrow.Author.Needs.{needs}
+use Rattle.mirror.proofs.compare.same_flight.Statement.{statement}
+use Rattle.mirror.proofs.compare.same_flight.Tie as tie
+
+same-slots-requires : tie.Need-same-slots-requires
+same-slots-requires c κs = search needs
+
+same-slots-requires-2 : tie.Need-same-slots-requires-2
+same-slots-requires-2 c κs = search needs
+
+same-body-requires : tie.Need-same-body-requires
+same-body-requires c κs = search needs
+
+both-requires : tie.Need-both-requires
+both-requires c κs = search needs
+
+both-requires-2 : tie.Need-both-requires-2
+both-requires-2 c κs = search needs
+
+returns : tie.Need-returns
+unfolding sameFlight
+returns c = cc
+
+pub same-flight-spec : {M : Type 1} → statement M
+same-flight-spec =
+    tie.close
+    (tie.spec
+    same-slots-requires
+    same-slots-requires-2
+    same-body-requires
+    both-requires
+    both-requires-2
+    returns)

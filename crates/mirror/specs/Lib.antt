@@ -1,0 +1,2 @@
+-- When two ticks mirror each other. Definitions only.
+pub mod Compare
