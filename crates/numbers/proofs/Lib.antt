@@ -1,1 +1,2 @@
--- Laws of rows. Assumes nothing.
+-- Laws of rows.
+pub mod RoundTrip
