@@ -9,13 +9,13 @@ use mathlib.Core.List.{List, map-id}
 use mathlib.Core.Path.{_∙_, _≡_, ap, refl}
 use Rattle.airframe.specs.Numbers.{falloffNumber, modelNumbers, numbersOf, washNumbers}
 use Rattle.airframe.specs.declared.Airframe.{Airframe}
-use Rattle.airframe_block.specs.Block.{coefficientsOf, falloffOf, listFrom, listOf, modelOf, washOf}
+use Rattle.airframe_block.specs.Block.{coefficientsOf, falloffOf, modelOf, washOf}
+use Rattle.mixers.specs.Slots.{flagAt, listFrom, listOf, slots, vecAt as slotVec}
 use Rattle.fixed_wing.specs.declared.ThrustFalloff.{ThrustFalloff}
 use Rattle.fixed_wing.specs.declared.ThrustFalloff.the-variants.{Linear, PitchSpeed}
 use Rattle.flight.specs.declared.Flight.{Flight}
 use Rattle.float.proofs.Zeros.{some-not-zero, zero-is-zero}
 use Rattle.mixers.proofs.Slots.{map-slots}
-use Rattle.mixers.specs.Slots.{flagAt, slots, vecAt as slotVec}
 use Rattle.vector.specs.Vector.{vec}
 use Rattle.vector.specs.declared.Vec3.{Vec3}
 use Rattle.numbers.specs.Airframe.{airframeNumber, airframeNumbers, airframeOf, axisOf, flagNumber, flagsOf, isSet, kindNumber, kindOf, placesOf, vecsAt, vecsNumber}
