@@ -1,2 +1,3 @@
 -- Laws of rows.
 pub mod RoundTrip
+pub mod Places
