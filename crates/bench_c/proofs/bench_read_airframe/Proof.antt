@@ -10,7 +10,7 @@ reply-requires : tie.Need-reply-requires
 reply-requires c κs = search needs
 
 returns : tie.Need-returns
-returns c = cc
+returns c = simp (c .reply .ensures, c .before .read-airframe .ensures)
 
 pub bench-read-airframe-spec : {M : Type 1} → statement M
 bench-read-airframe-spec = tie.close (tie.spec read-airframe-requires reply-requires returns)

@@ -24,7 +24,7 @@ add-result c = search needs
 
 returns : tie.Need-returns
 unfolding replyOf
-returns c = cc
+returns c = simp (c .place .ensures, c .before .number .ensures)
 
 pub reply-spec : {M : Type 1} → statement M
 reply-spec =
