@@ -226,7 +226,7 @@ fn falloff_number(falloff: ThrustFalloff) -> f32
 }
 
 // The least numbers by place: a PitchSpeed's is 0.1.
-fn low_limits(falloff: ThrustFalloff) -> [f32; 48]
+pub fn low_limits(falloff: ThrustFalloff) -> [f32; 48]
     ensures { λ r. ⌜ r ≡ Acceptance.lowLimits falloff ⌝ }
 {
     let mut low = LOW;
@@ -240,7 +240,7 @@ fn low_limits(falloff: ThrustFalloff) -> [f32; 48]
 }
 
 // How many places are tested: the wash's 7 only where it is present.
-fn tested_places(wash_present: bool) -> usize
+pub fn tested_places(wash_present: bool) -> usize
     ensures { λ r. ⌜ r ≡ Acceptance.testedPlaces «wash_present» ⌝ ∗ ⌜ r ≤ 48 ⌝ }
 {
     if wash_present { 48 } else { 41 }
@@ -262,7 +262,7 @@ fn places_inside(numbers: [f32; 48], low: [f32; 48], count: usize) -> bool
 }
 
 // The first of `count` numbers outside its limits, counted from 1; 0 for none.
-fn first_outside(numbers: [f32; 48], low: [f32; 48], count: usize) -> u32
+pub fn first_outside(numbers: [f32; 48], low: [f32; 48], count: usize) -> u32
     requires { ⌜ count ≤ 48 ⌝ }
     ensures { λ r. ⌜ r ≡ Acceptance.firstOutside low numbers count ⌝ ∗ ⌜ r ≤ 48 ⌝ }
 {
@@ -294,7 +294,7 @@ fn vectors_inside(vectors: [Vec3; 8], limit: f32) -> bool
 }
 
 // `place` where a slot's vector has a component larger in size than `limit`, else 0.
-fn vectors_outside(vectors: [Vec3; 8], limit: f32, place: u32) -> u32
+pub fn vectors_outside(vectors: [Vec3; 8], limit: f32, place: u32) -> u32
     ensures { λ r. ⌜ r ≡ Acceptance.vectorsOutside limit place vectors ⌝ }
 {
     if vectors_inside(vectors, limit) {

@@ -15,7 +15,8 @@ use Rattle.answers.specs.declared.Answer.{Answer}
 use Rattle.answers.specs.declared.Answer.the-variants.{Done, NumberOutOfRange, ReservedBit, TooManyRows, WrongFalloff, WrongLength, WrongVersion}
 use Rattle.float.specs.Bytes.{byteAt}
 use Rattle.mixers.specs.declared.Rows.{Rows}
-use Rattle.airframe_block.specs.Block.{acceptedAirframe, airframeBy, badRow, bytesOf, headerOf, listFrom, listOf, lowestPlace, numberCount, numberFrom, numbersFrom, placedAirframe, readAirframeOf, readBody, readBy, readRows, refusedAirframe, reservedRow, rowsAt, rowsFrom, testedAirframe, washOf}
+use Rattle.airframe_block.specs.Block.{acceptedAirframe, airframeBy, badRow, bytesOf, headerOf, lowestPlace, numberCount, numberFrom, numbersFrom, placedAirframe, readAirframeOf, readBody, readBy, readRows, refusedAirframe, reservedRow, rowsAt, rowsFrom, testedAirframe, washOf}
+use Rattle.mixers.specs.Slots.{listFrom, listOf}
 use Rattle.airframe_block.specs.declared.AirframeRead.{AirframeRead}
 use Rattle.airframe_block.specs.declared.Header.{Header}
 

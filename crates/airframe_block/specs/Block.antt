@@ -19,7 +19,7 @@ use Rattle.float.specs.Interval.{inside}
 use Rattle.float.specs.Notation.{nought, rounded, sizeOf}
 use Rattle.float.specs.Ordered.{firstFail}
 use Rattle.mixers.specs.Rows.{liveOf, noRow}
-use Rattle.mixers.specs.Slots.{at}
+use Rattle.mixers.specs.Slots.{at, listOf}
 use Rattle.mixers.specs.declared.MixRow.{MixRow}
 use Rattle.mixers.specs.declared.Rows.{Rows}
 use Rattle.mixers.specs.declared.Slot.{Slot}
@@ -34,14 +34,6 @@ use Rattle.vector.specs.Vector.{vec}
 use Rattle.vector.specs.declared.Vec3.{Vec3}
 use Rattle.airframe_block.specs.declared.AirframeRead.{AirframeRead}
 use Rattle.airframe_block.specs.declared.Header.{Header}
-
--- the values f 0, f 1, .. of n indexes, from the index i on
-unfoldable pub listFrom : {X : Type 0} → (ℕ → X) → ℕ → ℕ → List X
-listFrom f i zero = []
-listFrom f i (suc n) = f i ∷ listFrom f (suc i) n
-
-unfoldable pub listOf : {X : Type 0} → (ℕ → X) → ℕ → List X
-listOf f n = listFrom f 0 n
 
 -- ---- the header: version 4 bits, falloff kind 2, wash present 1, reserved 4, row count 5, packed most significant first into the bytes a and b
 unfoldable pub headerOf : ℕ → ℕ → Header

@@ -93,7 +93,8 @@ fn read_numbers(s: &[u8], count: usize) -> [f32; 48]
     xs
 }
 
-fn falloff_of(kind: u8, x: f32) -> ThrustFalloff
+// The falloff of its kind and its number.
+pub fn falloff_of(kind: u8, x: f32) -> ThrustFalloff
     ensures { λ r. ⌜ r ≡ Block.falloffOf kind x ⌝ }
 {
     if kind == 0 {

@@ -1,2 +1,3 @@
--- Laws of the lengths of rows. Assumes nothing.
+-- Laws of the library.
 pub mod Lengths
+pub mod Prepared

@@ -3,13 +3,16 @@
 ghost use mathlib.Core.Path.{_≡_};
 ghost use lib.Ieee.{binary32};
 ghost use lib.ListN.{length};
+ghost use Prim.Native.Nat.{_≤_};
 ghost use Rattle.airframe_block.specs.Block.{readAirframeOf};
 ghost use Rattle.libm.specs.Atan.{atan2Of, asinOf};
 ghost use Rattle.libm.specs.Exp.{expOf};
 ghost use Rattle.libm.specs.Sqrt.{sqrtOf};
 ghost use Rattle.libm.specs.Trig.{sinOf, cosOf};
+ghost use Rattle.numbers.specs.Airframe.{airframeOf};
 ghost use Rattle.run.specs.Run as Run;
 ghost use Rattle.state_block.specs.Layout.{readStateOf};
+ghost use Rattle.wing.specs.Tick.{tickOf};
 ghost use Rattle.bench_c.specs.Library as Library;
 use airframe_block::AirframeRead;
 use answers::Answer;
@@ -148,6 +151,18 @@ fn ticked_by(read: AirframeRead, f: Flight, t: Tick) -> Ticked
     wing::refused(answer, f)
 }
 
+// The tick of an airframe in its row, which is tested where it stands.
+fn ticked_row(airframe: &[f32], f: Flight, t: Tick) -> Ticked
+    requires { do ⌜ 106 ≤ (← ⟦airframe.len()⟧) ⌝ }
+    ensures { λ r. ⌜ r ≡ tickOf (airframeOf (now (airframe .entry))) f t ⌝ }
+{
+    let place = numbers::refused_place(airframe);
+    if place == 0 {
+        return wing::flown(numbers::airframe_of(airframe), f, t);
+    }
+    wing::refused(Answer::NumberOutOfRange(place), f)
+}
+
 // Alpha, beta and thrust into a row of 3.
 fn put_report(row: &mut [f32], r: Report)
     requires { do ⌜ (← ⟦row.len()⟧) ≡ 3 ⌝ }
@@ -221,7 +236,7 @@ pub extern "C" fn bench_tick_prepared(
         if rows_fit(state.len(), tick.len(), report.len()) {
             let f = numbers::flight_of(state);
             let t = numbers::tick_of(tick);
-            let done = lent_tick::tick_lent(numbers::airframe_of(airframe), f, t);
+            let done = ticked_row(airframe, f, t);
             return handed_back(done, state, report);
         }
         return 1;

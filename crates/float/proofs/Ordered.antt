@@ -15,6 +15,9 @@ use Rattle.float.specs.Ordered.{after, allPass, firstFail, orElse}
 use Rattle.float.specs.Same.{Rel, num}
 
 -- ---- a loop over the tests below n, at i
+pub from-start : (ok : ℕ → Bool) (n : ℕ) → firstFail ok 0 n ≡ firstFail ok 0 (n - 0)
+from-start ok n = ap (firstFail ok 0) (omega arith)
+
 pub fail-next : (ok : ℕ → Bool) (i n : ℕ) → i < n → ok i ≡ true → firstFail ok i (n - i) ≡ firstFail ok (i + 1) (n - (i + 1))
 unfolding firstFail
 fail-next ok i n l e = ap (firstFail ok i) (less i n l) ∙ (rw e (rw (add-one i) refl))

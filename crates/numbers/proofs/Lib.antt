@@ -1,1 +1,3 @@
--- Laws of rows. Assumes nothing.
+-- Laws of rows.
+pub mod RoundTrip
+pub mod Places

@@ -7,11 +7,11 @@ use mathlib.Core.Bool.{Bool, cond, not}
 use mathlib.Core.List.{List}
 use Rattle.airframe.specs.Numbers.{numbersOf}
 use Rattle.airframe.specs.declared.Airframe.{Airframe}
-use Rattle.airframe_block.specs.Block.{listOf, modelOf, washOf}
+use Rattle.airframe_block.specs.Block.{modelOf, washOf}
+use Rattle.mixers.specs.Slots.{at, flagAt, listOf, slots, vecAt as slotVec}
 use Rattle.fixed_wing.specs.declared.ThrustFalloff.{ThrustFalloff}
 use Rattle.fixed_wing.specs.declared.ThrustFalloff.the-variants.{Linear, PitchSpeed}
 use Rattle.float.specs.Notation.{nought, one}
-use Rattle.mixers.specs.Slots.{at, flagAt, slots, vecAt as slotVec}
 use Rattle.vector.specs.declared.Vec3.{Vec3}
 use Rattle.numbers.specs.Flight.{vecAt}
 

@@ -2,6 +2,7 @@
 // and of the tick block in their order, and an airframe that was read, prepared for many ticks.
 ghost use mathlib.Core.Path.{_≡_};
 ghost use Prim.Native.Nat.{_+_, _<_, _≤_};
+ghost use Rattle.airframe.specs.Acceptance.{refusedPlace};
 ghost use Rattle.airframe.specs.Numbers.{numbersOf};
 ghost use Rattle.mixers.specs.Slots.{at, flagAt};
 ghost use lib.ListN.{length};
@@ -218,6 +219,19 @@ pub fn airframe_of(xs: &[f32]) -> Airframe
         torque_per_thrust_m,
         weights,
     }
+}
+
+// The lowest place out of range of the airframe of a row, by the row's own numbers; 0 where it is accepted.
+pub fn refused_place(xs: &[f32]) -> u32
+    requires { do ⌜ 106 ≤ (← ⟦xs.len()⟧) ⌝ }
+    ensures { λ r. ⌜ r ≡ refusedPlace (AirframeRow.airframeOf (now (xs .entry))) ⌝ }
+{
+    let falloff = airframe_block::falloff_of(kind_of(xs[48]), xs[36]);
+    let tested = airframe::tested_places(is_set(xs[49]));
+    let first = airframe::first_outside(places_of(xs), airframe::low_limits(falloff), tested);
+    let torque = airframe::vectors_outside(vecs_at(xs, 58), 100.0, 50);
+    let weight = airframe::vectors_outside(vecs_at(xs, 82), 101.0, 51);
+    float::or_else(first, float::or_else(torque, weight))
 }
 
 fn flag_number(b: bool) -> f32

@@ -3,7 +3,7 @@ use Rattle.airframe.specs.Acceptance.{firstOutside, highTable, placeInsi
 use Rattle.mixers.specs.Slots.{at}
 use Rattle.float.specs.Ordered.{firstFail}
 use Rattle.float.specs.Interval.{inside}
-use Rattle.float.proofs.Ordered.{fail-end, fail-here, fail-next, not-false, not-true, pass-none}
+use Rattle.float.proofs.Ordered.{fail-end, fail-here, fail-next, from-start, not-false, not-true, pass-none}
 use borrow.Author.Needs.{needs}
 use native.Mathlib.Omega.{arith}
 use mathlib.Core.Path.{_∙_, _≡_, ap, refl, sym}
@@ -12,9 +12,6 @@ use lib.Ieee.{Float, ofBits, round}
 use Prim.Native.Nat.{_-_, _≤_, ℕ}
 use Rattle.airframe.proofs.first_outside.Statement.{statement}
 use Rattle.airframe.proofs.first_outside.Tie as tie
-
-whole : (n : ℕ) → n ≡ n - 0
-whole n = omega arith
 
 abbrev Inv-loop : tie.InvT-loop
 Inv-loop count numbers low high i₀ i = (i ≤ count) × (count ≤ 48) × (high ≡ highTable) × (firstFail (placeInside low numbers) 0 count ≡ firstFail (placeInside low numbers) i (count - i))
@@ -31,7 +28,7 @@ returns c = (sym (pass-none _ _ (sym (c .before .places-inside .ensures) ∙ c .
 
 loop-holds : tie.Need-loop-holds Inv-loop μ-loop
 unfolding highTable ofBits round
-loop-holds c = (search needs, search needs, refl, ap (firstFail _ 0) (whole (c .before .before .args .count)))
+loop-holds c = (search needs, search needs, refl, from-start _ _)
 
 mul-inside : tie.Need-mul-inside Inv-loop μ-loop
 mul-inside c = search needs

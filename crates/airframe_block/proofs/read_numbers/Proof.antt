@@ -8,7 +8,7 @@ use borrow.Author.Needs.{needs}
 use borrow.Author.Tests.{lt-ltb, le-ltb}
 use Rattle.float.specs.Notation.{nought}
 use Rattle.state_block.specs.Layout.{floatAt}
-use Rattle.airframe_block.proofs.Filling.{Reached, reach-end, reach-more, reach-start}
+use Rattle.mixers.proofs.Filling.{Reached, reach-end, reach-more, reach-start}
 use Rattle.airframe_block.specs.Block.{numberFrom, numbersFrom}
 use Rattle.airframe_block.proofs.read_numbers.Statement.{statement}
 use Rattle.airframe_block.proofs.read_numbers.Tie as tie

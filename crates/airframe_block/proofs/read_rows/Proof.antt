@@ -7,7 +7,7 @@ use native.Mathlib.Omega.{arith}
 use borrow.Author.Needs.{needs}
 use borrow.Author.Tests.{lt-ltb, le-ltb}
 use Rattle.mixers.specs.Rows.{noRow}
-use Rattle.airframe_block.proofs.Filling.{Reached, reach-end, reach-more, reach-start}
+use Rattle.mixers.proofs.Filling.{Reached, reach-end, reach-more, reach-start}
 use Rattle.airframe_block.specs.Block.{emptyRow, rowOr, rowsFrom}
 use Rattle.airframe_block.proofs.read_rows.Statement.{statement}
 use Rattle.airframe_block.proofs.read_rows.Tie as tie

@@ -17,14 +17,11 @@ flight-of-requires c κs = omega (arith, rows-fit _ _ _ (sym (c .before .before 
 tick-of-requires : tie.Need-tick-of-requires
 tick-of-requires c κs = omega (arith, rows-fit _ _ _ (sym (c .before .before .before .rows-fit .ensures) ∙ c .before .before .if2 .taken) .1 .0)
 
-airframe-of-requires : tie.Need-airframe-of-requires
-airframe-of-requires c κs = search needs
-
-tick-lent-requires : tie.Need-tick-lent-requires
-tick-lent-requires c κs = search needs
+ticked-row-requires : tie.Need-ticked-row-requires
+ticked-row-requires c κs = search needs
 
 handed-back-requires : tie.Need-handed-back-requires
-handed-back-requires c κs = (rows-fit _ _ _ (sym (c .before .before .before .before .before .before .before .before .rows-fit .ensures) ∙ c .before .before .before .before .before .before .before .if2 .taken) .0, rows-fit _ _ _ (sym (c .before .before .before .before .before .before .before .before .rows-fit .ensures) ∙ c .before .before .before .before .before .before .before .if2 .taken) .1 .1)
+handed-back-requires c κs = (rows-fit _ _ _ (sym (c .before .before .before .before .before .before .before .rows-fit .ensures) ∙ c .before .before .before .before .before .before .if2 .taken) .0, rows-fit _ _ _ (sym (c .before .before .before .before .before .before .before .rows-fit .ensures) ∙ c .before .before .before .before .before .before .if2 .taken) .1 .1)
 
 same-length : tie.Need-same-length
 same-length c = search needs
@@ -34,7 +31,7 @@ same-length-2 c = search needs
 
 returns : tie.Need-returns
 unfolding rowTick replyAfter stateAfter reportAfter
-returns c = (simp (c .before .before .before .before .handed-back .ensures .0, c .before .before .before .before .before .before .before .tick-lent .ensures, c .before .before .before .before .before .before .before .before .airframe-of .ensures, c .before .before .before .before .before .before .before .before .before .tick-of .ensures, c .before .before .before .before .before .before .before .before .before .before .flight-of .ensures, sym (c .before .before .before .before .before .before .before .before .before .before .before .before .before .rows-fit .ensures) ∙ c .before .before .before .before .before .before .before .before .before .before .before .before .if2 .taken, eq-eqb _ _ (c .before .before .before .before .before .before .before .before .before .before .before .before .before .before .if1 .taken)), (simp (c .before .before .before .before .handed-back .ensures .1 .0, c .before .before .before .before .before .before .before .tick-lent .ensures, c .before .before .before .before .before .before .before .before .airframe-of .ensures, c .before .before .before .before .before .before .before .before .before .tick-of .ensures, c .before .before .before .before .before .before .before .before .before .before .flight-of .ensures, sym (c .before .before .before .before .before .before .before .before .before .before .before .before .before .rows-fit .ensures) ∙ c .before .before .before .before .before .before .before .before .before .before .before .before .if2 .taken, eq-eqb _ _ (c .before .before .before .before .before .before .before .before .before .before .before .before .before .before .if1 .taken)), simp (c .before .before .before .before .handed-back .ensures .1 .1, c .before .before .before .before .before .before .before .tick-lent .ensures, c .before .before .before .before .before .before .before .before .airframe-of .ensures, c .before .before .before .before .before .before .before .before .before .tick-of .ensures, c .before .before .before .before .before .before .before .before .before .before .flight-of .ensures, sym (c .before .before .before .before .before .before .before .before .before .before .before .before .before .rows-fit .ensures) ∙ c .before .before .before .before .before .before .before .before .before .before .before .before .if2 .taken, eq-eqb _ _ (c .before .before .before .before .before .before .before .before .before .before .before .before .before .before .if1 .taken))))
+returns c = (simp (c .before .before .before .before .handed-back .ensures .0, c .before .before .before .before .before .before .before .ticked-row .ensures, c .before .before .before .before .before .before .before .before .tick-of .ensures, c .before .before .before .before .before .before .before .before .before .flight-of .ensures, sym (c .before .before .before .before .before .before .before .before .before .before .before .before .rows-fit .ensures) ∙ c .before .before .before .before .before .before .before .before .before .before .before .if2 .taken, eq-eqb _ _ (c .before .before .before .before .before .before .before .before .before .before .before .before .before .if1 .taken)), (simp (c .before .before .before .before .handed-back .ensures .1 .0, c .before .before .before .before .before .before .before .ticked-row .ensures, c .before .before .before .before .before .before .before .before .tick-of .ensures, c .before .before .before .before .before .before .before .before .before .flight-of .ensures, sym (c .before .before .before .before .before .before .before .before .before .before .before .before .rows-fit .ensures) ∙ c .before .before .before .before .before .before .before .before .before .before .before .if2 .taken, eq-eqb _ _ (c .before .before .before .before .before .before .before .before .before .before .before .before .before .if1 .taken)), simp (c .before .before .before .before .handed-back .ensures .1 .1, c .before .before .before .before .before .before .before .ticked-row .ensures, c .before .before .before .before .before .before .before .before .tick-of .ensures, c .before .before .before .before .before .before .before .before .before .flight-of .ensures, sym (c .before .before .before .before .before .before .before .before .before .before .before .before .rows-fit .ensures) ∙ c .before .before .before .before .before .before .before .before .before .before .before .if2 .taken, eq-eqb _ _ (c .before .before .before .before .before .before .before .before .before .before .before .before .before .if1 .taken))))
 
 returns-2 : tie.Need-returns-2
 unfolding replyAfter stateAfter reportAfter
@@ -51,8 +48,7 @@ bench-tick-prepared-spec =
     rows-fit-requires
     flight-of-requires
     tick-of-requires
-    airframe-of-requires
-    tick-lent-requires
+    ticked-row-requires
     handed-back-requires
     same-length
     same-length-2

@@ -4,7 +4,7 @@ use Prim.Native.Nat.{_-_}
 use Prim.Native.Nat.{ℕ}
 use lib.Ieee.{nan}
 use native.Mathlib.Omega.{arith}
-use Rattle.airframe_block.proofs.Filling.{Reached, reach-end, reach-more, reach-start}
+use Rattle.mixers.proofs.Filling.{Reached, reach-end, reach-more, reach-start}
 use Rattle.mixers.specs.Slots.{at}
 use mathlib.Core.Path.{refl}
 use Rattle.numbers.specs.Airframe.{placesOf}

@@ -3,7 +3,7 @@ use borrow.Author.Needs.{needs}
 use Prim.Native.Nat.{_-_}
 use lib.Ieee.{nan}
 use native.Mathlib.Omega.{arith}
-use Rattle.airframe_block.proofs.Filling.{Reached, reach-end, reach-more, reach-start}
+use Rattle.mixers.proofs.Filling.{Reached, reach-end, reach-more, reach-start}
 use Rattle.numbers.specs.Airframe.{airframeNumber, airframeNumbers}
 use Rattle.numbers.proofs.put_airframe.Statement.{statement}
 use Rattle.numbers.proofs.put_airframe.Tie as tie

@@ -8,9 +8,8 @@ use lib.Ieee.{Float}
 use mathlib.Core.List.{List}
 use mathlib.Core.Path.{_∙_, ap, refl}
 use native.Mathlib.Omega.{arith}
-use Rattle.airframe_block.proofs.Filling.{Reached, reach-end, reach-more, reach-start}
-use Rattle.airframe_block.specs.Block.{listFrom, listOf}
-use Rattle.mixers.specs.Slots.{at}
+use Rattle.mixers.proofs.Filling.{Reached, reach-end, reach-more, reach-start}
+use Rattle.mixers.specs.Slots.{at, listFrom, listOf}
 use Rattle.numbers.specs.Flight.{flightNumbers}
 use Rattle.numbers.proofs.put_flight.Statement.{statement}
 use Rattle.numbers.proofs.put_flight.Tie as tie
