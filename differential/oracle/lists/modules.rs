@@ -6,8 +6,9 @@ use stable_flight::mixers::{MixRow, Slot};
 use super::list;
 use crate::aero::{self, Wash};
 use crate::arguments::SPECIAL;
-use crate::blocks::{Airframe, SLOTS, layout, mix};
+use crate::blocks::{Airframe, SLOTS, State, layout, mix};
 use crate::body::{Body, Loads, MassProperties};
+use crate::hand;
 use crate::inputs::{self, Row};
 use crate::lag;
 use crate::limits;
@@ -456,7 +457,8 @@ fn wrench_case(rng: &mut Rng) -> String {
 
 pub fn body_step() -> String {
     let mut rng = Rng::new(20);
-    let cases = (0..260).map(|index| body_case(&mut rng, index)).collect();
+    let mut cases: Vec<String> = (0..260).map(|index| body_case(&mut rng, index)).collect();
+    cases.extend(small_turns());
     list(
         "body_step: mass, inertia 3, force NED 3, torque FRD 3, h, position 3, velocity 3, \
          attitude w i j k, rates 3 > position 3, velocity 3, attitude w i j k, rates 3",
@@ -477,8 +479,40 @@ fn body_case(rng: &mut Rng, index: usize) -> String {
     let mass = rng.between(0.5, 20.0);
     let inertia: [f32; 3] = core::array::from_fn(|_| rng.between(0.02, 2.0));
     let h = rng.pick(&[limits::STEP_S.0, limits::STEP_S.1, 1.0 / 64.0, 0.01]);
-    let state = inputs::state(rng);
-    let mut body = body(&state);
+    body_line(mass, inertia, [force, torque], h, &inputs::state(rng))
+}
+
+/// Turns around the smallest that counts, about each axis: at a step of 1/64 a rate of 2^-16 has
+/// half an angle of 2^-23, whose square is 2^-46.
+fn small_turns() -> Vec<String> {
+    let smallest = 1.0 / 65536.0_f32;
+    let sizes = [
+        0.5 * smallest,
+        0.75 * smallest,
+        smallest.next_down(),
+        smallest,
+        smallest.next_up(),
+        1.25 * smallest,
+    ];
+    let mut cases = Vec::new();
+    for size in sizes {
+        for axis in 0..3 {
+            let mut state = hand::at_rest();
+            state.rates[axis] = size;
+            cases.push(body_line(1.0, [1.0; 3], [[0.0; 3]; 2], 1.0 / 64.0, &state));
+        }
+    }
+    cases
+}
+
+fn body_line(
+    mass: f32,
+    inertia: [f32; 3],
+    [force, torque]: [[f32; 3]; 2],
+    h: f32,
+    state: &State,
+) -> String {
+    let mut body = body(state);
     let properties = MassProperties {
         mass_kg: mass,
         inertia_kgm2: vector(inertia),
