@@ -1,84 +1,62 @@
+-- `float::read` meets its contract. Assumes nothing.
 use borrow.Author.Needs.{needs}
 use Rattle.float.proofs.read.Statement.{statement}
 use Rattle.float.proofs.read.Tie as tie
-use Rattle.float.proofs.read.Reads as reads
-use Rattle.float.proofs.read.Lts as lts
-use Rattle.float.proofs.from_bits.Reads as from-bits-reads
-use Rattle.float.proofs.wide.Reads as wide-reads
 
--- src/lib.rt:44:18
 shared-slice-read-wide : tie.Need-shared-slice-read-wide
 shared-slice-read-wide c = search needs
 
--- src/lib.rt:44:9
 wide-requires : tie.Need-wide-requires
 wide-requires c κs = search needs
 
--- src/lib.rt:45:20
 add-wide : tie.Need-add-wide
 add-wide c = search needs
 
--- src/lib.rt:45:18
 shared-slice-read-wide-2 : tie.Need-shared-slice-read-wide-2
 shared-slice-read-wide-2 c = search needs
 
--- src/lib.rt:45:9
 wide-requires-2 : tie.Need-wide-requires-2
 wide-requires-2 c κs = search needs
 
--- src/lib.rt:46:20
 add-wide-2 : tie.Need-add-wide-2
 add-wide-2 c = search needs
 
--- src/lib.rt:46:18
 shared-slice-read-wide-3 : tie.Need-shared-slice-read-wide-3
 shared-slice-read-wide-3 c = search needs
 
--- src/lib.rt:46:9
 wide-requires-3 : tie.Need-wide-requires-3
 wide-requires-3 c κs = search needs
 
--- src/lib.rt:47:20
 add-wide-3 : tie.Need-add-wide-3
 add-wide-3 c = search needs
 
--- src/lib.rt:47:18
 shared-slice-read-wide-4 : tie.Need-shared-slice-read-wide-4
 shared-slice-read-wide-4 c = search needs
 
--- src/lib.rt:47:9
 wide-requires-4 : tie.Need-wide-requires-4
 wide-requires-4 c κs = search needs
 
--- src/lib.rt:48:18
 mul-from-bits : tie.Need-mul-from-bits
 mul-from-bits c = search needs
 
--- src/lib.rt:48:33
 mul-from-bits-2 : tie.Need-mul-from-bits-2
 mul-from-bits-2 c = search needs
 
--- src/lib.rt:48:18
 add-from-bits : tie.Need-add-from-bits
 add-from-bits c = search needs
 
--- src/lib.rt:48:45
 mul-from-bits-3 : tie.Need-mul-from-bits-3
 mul-from-bits-3 c = search needs
 
--- src/lib.rt:48:18
 add-from-bits-2 : tie.Need-add-from-bits-2
 add-from-bits-2 c = search needs
 
--- src/lib.rt:48:18
 add-from-bits-3 : tie.Need-add-from-bits-3
 add-from-bits-3 c = search needs
 
--- src/lib.rt:48:5
 from-bits-requires : tie.Need-from-bits-requires
 from-bits-requires c κs = search needs
 
--- src/lib.rt:40:1
 returns : tie.Need-returns
 returns c = cc
 
