@@ -4,8 +4,6 @@ use Prim.Native.Nat.{_*_, _%_, _≤_}
 use Rattle.float.proofs.Patterns.{not-nan-pattern, power-is}
 use Rattle.float.proofs.biased_power.Statement.{statement}
 use Rattle.float.proofs.biased_power.Tie as tie
-use Rattle.float.proofs.biased_power.Reads as reads
-use Rattle.float.proofs.biased_power.Lts as lts
 
 mul-result : tie.Need-mul-result
 mul-result c = omega arith

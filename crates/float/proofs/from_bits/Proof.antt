@@ -5,8 +5,6 @@ use Rattle.float.proofs.Patterns.{not-nan-pattern, nan-pattern, zero-by
 use borrow.Author.Needs.{needs}
 use Rattle.float.proofs.from_bits.Statement.{statement}
 use Rattle.float.proofs.from_bits.Tie as tie
-use Rattle.float.proofs.from_bits.Reads as reads
-use Rattle.float.proofs.from_bits.Lts as lts
 
 float-from-bits-result : tie.Need-float-from-bits-result
 float-from-bits-result c = not-nan-pattern (c .before .args .b) (omega arith)

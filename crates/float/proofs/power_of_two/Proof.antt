@@ -13,9 +13,6 @@ use mir.ValLaws.{toZ-ofZ}
 use Rattle.float.proofs.Integers.{Shifted, shifted}
 use Rattle.float.proofs.power_of_two.Statement.{statement}
 use Rattle.float.proofs.power_of_two.Tie as tie
-use Rattle.float.proofs.power_of_two.Reads as reads
-use Rattle.float.proofs.power_of_two.Lts as lts
-use Rattle.float.proofs.biased_power.Reads as biased-power-reads
 
 -- the sum as the machine reads it
 sum : (c : tie.Start) → Shifted (c .args .k) (toZ w64 (ofZ w64 (c .args .k)) +ℤ pos 127)

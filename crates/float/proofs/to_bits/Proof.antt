@@ -7,8 +7,6 @@ use Rattle.float.proofs.Patterns.{no-nan}
 use borrow.Author.Needs.{needs}
 use Rattle.float.proofs.to_bits.Statement.{statement}
 use Rattle.float.proofs.to_bits.Tie as tie
-use Rattle.float.proofs.to_bits.Reads as reads
-use Rattle.float.proofs.to_bits.Lts as lts
 
 nan-bits : (x : Float) → x ≡ nan → toBits binary32 x ≡ 0x7fc0_0000
 unfolding toBits

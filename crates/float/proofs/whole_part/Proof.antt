@@ -11,9 +11,6 @@ use borrow.Author.Needs.{needs}
 use Rattle.float.specs.Whole.{wholePart}
 use Rattle.float.proofs.whole_part.Statement.{statement}
 use Rattle.float.proofs.whole_part.Tie as tie
-use Rattle.float.proofs.whole_part.Reads as reads
-use Rattle.float.proofs.whole_part.Lts as lts
-use Rattle.float.proofs.truncated.Reads as truncated-reads
 
 -- `wholePart` by the answers of its two tests
 part : (x : Float) (a b : Bool) → lt (fin true 1 (pos 24)) x ≡ a → lt x (fin false 1 (pos 24)) ≡ b → wholePart x ≡ cond (a && b) (ofInt binary32 (toSigned 63 x)) (fin false 0 (pos 0))
