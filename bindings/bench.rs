@@ -1,6 +1,6 @@
 //! The flight bench for Rust, over the static library libbench_c.a: see README.md beside this file.
 //!
-//! Rows are arrays, so a row of another length does not compile; blocks and traces are bytes of any
+//! An array of another length does not compile; blocks and traces are bytes of any
 //! length, and the bench answers for them. An [`Airframe`] is one that the bench has accepted.
 
 // A program may call only some of it.
@@ -9,12 +9,8 @@
 use std::error::Error;
 use std::fmt;
 
-pub const AIRFRAME_NUMBERS: usize = 106;
-pub const STATE_NUMBERS: usize = 29;
-pub const TICK_NUMBERS: usize = 20;
-pub const REPORT_NUMBERS: usize = 3;
-pub const STATE_BYTES: usize = 116;
-pub const TICK_BYTES: usize = 80;
+// How many numbers an array and how many bytes a block has.
+include!("lengths.rs");
 
 /// Position 3 and velocity 3 (north, east, down; m and m/s), attitude w i j k, body rates p q r
 /// (rad/s), running motors 8, running servos 8.
@@ -101,7 +97,7 @@ pub struct Ran {
     pub accepted: u64,
 }
 
-/// Reads a state block of 116 bytes, whose numbers must be within the envelope.
+/// Reads a state block, whose numbers must be within the envelope.
 pub fn read_state(block: &[u8]) -> Result<State, Answer> {
     let mut state = [0.0; STATE_NUMBERS];
     Answer::refused(raw::read_state(block, &mut state))?;
@@ -123,38 +119,38 @@ pub fn airframe_length(bytes: &[u8]) -> Option<usize> {
         return None;
     };
     let rows = usize::from(second & 31);
-    let wash = if first & 2 == 0 { 0 } else { 28 };
-    (rows <= 16).then_some(166 + wash + 13 * rows)
+    let wash = if first & 2 == 0 { 0 } else { WASH_BYTES };
+    (rows <= MOST_ROWS).then_some(AIRFRAME_BYTES + wash + ROW_BYTES * rows)
 }
 
-/// An airframe that the bench has accepted: its block and its row of numbers.
+/// An airframe that the bench has accepted: its block and its array of numbers.
 #[derive(Debug, Clone)]
 pub struct Airframe {
     block: Vec<u8>,
-    row: [f32; AIRFRAME_NUMBERS],
+    numbers: [f32; AIRFRAME_NUMBERS],
 }
 
 impl Airframe {
     /// Reads an airframe block; its length is the one its header gives.
     pub fn read(block: &[u8]) -> Result<Self, Answer> {
-        let mut row = [0.0; AIRFRAME_NUMBERS];
-        Answer::refused(raw::prepare(block, &mut row))?;
+        let mut numbers = [0.0; AIRFRAME_NUMBERS];
+        Answer::refused(raw::prepare(block, &mut numbers))?;
         let block = block.to_vec();
-        Ok(Airframe { block, row })
+        Ok(Airframe { block, numbers })
     }
 
     pub fn block(&self) -> &[u8] {
         &self.block
     }
 
-    pub fn row(&self) -> &[f32; AIRFRAME_NUMBERS] {
-        &self.row
+    pub fn numbers(&self) -> &[f32; AIRFRAME_NUMBERS] {
+        &self.numbers
     }
 
     /// One tick: moves `state` on. A refused tick leaves it as it was.
     pub fn tick(&self, state: &mut State, tick: &Tick) -> Result<Report, Answer> {
         let mut report = [0.0; REPORT_NUMBERS];
-        Answer::refused(raw::tick_prepared(&self.row, state, tick, &mut report))?;
+        Answer::refused(raw::tick_prepared(&self.numbers, state, tick, &mut report))?;
         let [alpha_rad, beta_rad, thrust_n] = report;
         Ok(Report {
             alpha_rad,
@@ -163,7 +159,7 @@ impl Airframe {
         })
     }
 
-    /// Flies the trace, tick blocks of 80 bytes one after another, from `state`. A refused tick
+    /// Flies the trace, tick blocks one after another, from `state`. A refused tick
     /// leaves the state and the next one follows; only a trace that is not whole ticks is refused.
     pub fn run(&self, state: &State, trace: &[u8]) -> Result<Ran, Answer> {
         let (mut state, mut accepted) = (*state, 0);
@@ -182,7 +178,7 @@ impl Airframe {
     }
 }
 
-/// The library's calls over slices of any length. Each gives the bench's reply: 1 for a row of
+/// The library's calls over slices of any length. Each gives the bench's reply: 1 for an array of
 /// another length, which leaves what was lent as found. include/bench.h says what each call does.
 pub mod raw {
     mod library {
@@ -267,13 +263,13 @@ pub mod raw {
     }
 
     pub fn prepare(block: &[u8], airframe: &mut [f32]) -> u64 {
-        let (row, numbers) = (airframe.as_mut_ptr(), airframe.len());
-        unsafe { library::bench_prepare(block.as_ptr(), block.len(), row, numbers) }
+        let (array, numbers) = (airframe.as_mut_ptr(), airframe.len());
+        unsafe { library::bench_prepare(block.as_ptr(), block.len(), array, numbers) }
     }
 
     pub fn read_state(block: &[u8], state: &mut [f32]) -> u64 {
-        let (row, numbers) = (state.as_mut_ptr(), state.len());
-        unsafe { library::bench_read_state(block.as_ptr(), block.len(), row, numbers) }
+        let (array, numbers) = (state.as_mut_ptr(), state.len());
+        unsafe { library::bench_read_state(block.as_ptr(), block.len(), array, numbers) }
     }
 
     pub fn write_state(state: &[f32], block: &mut [u8]) -> u64 {

@@ -56,7 +56,7 @@ fn the_reflection_has_east_exchanged() {
 fn a_refused_tick_leaves_the_state() {
     let sample = sample();
     let mut state = sample.state;
-    let refused = sample.airframe.tick(&mut state, &[0.0; 20]);
+    let refused = sample.airframe.tick(&mut state, &[0.0; bench::TICK_NUMBERS]);
     assert_eq!(refused, Err(Answer::StepOutside));
     assert_eq!(state, sample.state);
 }

@@ -3,9 +3,9 @@
  * Link target/staticlib/libbench_c.a (x86-64), which `rt staticlib bench_c` writes. It keeps no state of its own, asks for
  * no memory and calls nothing but memcpy, so calls from several threads need no lock.
  *
- * Rules for every call: each pointer is followed by its length, counted in elements (bytes of a block, floats of a row). A pointer
- * is never NULL, not even for length 0; a row of floats is aligned as float is. Buffers handed to one call do not overlap.
- * Every call returns, whatever the bytes and floats are, and changes nothing but what its comment names.
+ * Rules for every call: each pointer is followed by its length, counted in elements (bytes of a block, floats of an array). A
+ * pointer is never NULL, not even for length 0; an array of floats is aligned as float is. Buffers handed to one call do not
+ * overlap. Every call returns, whatever the bytes and floats are, and changes nothing but what its comment names.
  *
  * A reply is answer + 16 * place: bench_answer and bench_place take it apart. The place is 0 but for answer 6.
  */
@@ -19,7 +19,7 @@
 extern "C" {
 #endif
 
-/* How many floats each row has. */
+/* How many floats each array has. */
 #define BENCH_AIRFRAME_NUMBERS 106
 #define BENCH_STATE_NUMBERS 29
 #define BENCH_TICK_NUMBERS 20
@@ -32,6 +32,7 @@ extern "C" {
 #define BENCH_AIRFRAME_BYTES 166
 #define BENCH_WASH_BYTES 28
 #define BENCH_ROW_BYTES 13
+#define BENCH_MOST_ROWS 16
 
 /* What the bench answers. */
 enum bench_answers {
@@ -60,7 +61,7 @@ static inline unsigned bench_place(uint64_t reply)
     return (unsigned)(reply / 16);
 }
 
-/* Where the numbers of a state's row start; they stand in the same order in its block. */
+/* Where the numbers of a state's array start; they stand in the same order in its block. */
 enum bench_state_places {
     BENCH_STATE_POSITION = 0,  /* 3: north, east, down, in m */
     BENCH_STATE_VELOCITY = 3,  /* 3: north, east, down, in m/s */
@@ -70,7 +71,7 @@ enum bench_state_places {
     BENCH_STATE_SERVOS = 21    /* 8: running servos, -1 to 1 */
 };
 
-/* Where the numbers of a tick's row start; they stand in the same order in its block. */
+/* Where the numbers of a tick's array start; they stand in the same order in its block. */
 enum bench_tick_places {
     BENCH_TICK_STEP = 0,   /* 1: step, in s */
     BENCH_TICK_WIND = 1,   /* 3: wind north, east, down, in m/s */
@@ -85,7 +86,7 @@ enum bench_report_places {
     BENCH_REPORT_THRUST = 2 /* thrust over all motors, in N */
 };
 
-/* Where the numbers of a prepared airframe's row start. */
+/* Where the numbers of a prepared airframe's array start. What a later bench adds comes at the end, so these stay. */
 enum bench_airframe_places {
     BENCH_AIRFRAME_PLACES = 0,   /* 48: the numbers with places 1 to 48; 42 to 48 are the wash, zeros where there is none */
     BENCH_AIRFRAME_FALLOFF = 48, /* 1: falloff kind, 0 Linear, else PitchSpeed */
@@ -102,48 +103,48 @@ enum bench_airframe_places {
  * that the header gives (1); a reserved bit set in a row (4); a number out of range, the lowest place (6). */
 uint64_t bench_read_airframe(const uint8_t *block, size_t block_len);
 
-/* Reads an airframe block into a row of 106 floats, for bench_tick_prepared. Replies as bench_read_airframe. A refused block gives
- * a row of zeros. A row of another length gets 1 and is left as found. */
+/* Reads an airframe block into an array of 106 floats, for bench_tick_prepared. Replies as bench_read_airframe. A refused block
+ * gives zeros. An array of another length gets 1 and is left as found. */
 uint64_t bench_prepare(const uint8_t *block, size_t block_len, float *airframe, size_t airframe_len);
 
-/* Reads a state block into a row of 29 floats. Refused: not 116 bytes (1); outside the envelope (7). A refused block gives a row of
- * zeros. A row of another length gets 1 and is left as found. The envelope: position within 1,000,000 m, velocity within 1,000 m/s,
- * rates within 100 rad/s, ((i*i + j*j) + k*k) + w*w in 0.9..1.1, motors 0..1, servos -1..1; NaN is outside. */
+/* Reads a state block into an array of 29 floats. Refused: not 116 bytes (1); outside the envelope (7). A refused block gives
+ * zeros. An array of another length gets 1 and is left as found. The envelope: position within 1,000,000 m, velocity within
+ * 1,000 m/s, rates within 100 rad/s, ((i*i + j*j) + k*k) + w*w in 0.9..1.1, motors 0..1, servos -1..1; NaN is outside. */
 uint64_t bench_read_state(const uint8_t *block, size_t block_len, float *state, size_t state_len);
 
-/* Writes a state's row of 29 floats into a block of 116 bytes. The numbers are not tested. A row or a block of another length
+/* Writes a state's array of 29 floats into a block of 116 bytes. The numbers are not tested. An array or a block of another length
  * gets 1 and the block is left as found. */
 uint64_t bench_write_state(const float *state, size_t state_len, uint8_t *block, size_t block_len);
 
 /* ---- A tick ---- */
 
-/* One tick: moves the state in its row of 29 on by the tick's row of 20, with the airframe as its block, and gives alpha, beta and
- * thrust in the report's row of 3. Refused, the first that holds: a row of another length (1), which leaves state and report as
- * found; a refused block, with bench_read_airframe's reply; the state outside the envelope (7); the step not in 1/1024..0.02 s (8);
- * the next state outside the envelope (9). But for a row's length, a refused tick leaves the state as found and reports zeros.
- * Wind and commands may be any floats: a command that is NaN counts as 0, others are held to their range. */
+/* One tick: moves the state in its array of 29 on by the tick's array of 20, with the airframe as its block, and gives alpha, beta
+ * and thrust in the report's array of 3. Refused, the first that holds: an array of another length (1), which leaves state and
+ * report as found; a refused block, with bench_read_airframe's reply; the state outside the envelope (7); the step not in
+ * 1/1024..0.02 s (8); the next state outside the envelope (9). But for an array's length, a refused tick leaves the state as found
+ * and reports zeros. Wind and commands may be any floats: a command that is NaN counts as 0, others are held to their range. */
 uint64_t bench_tick(const uint8_t *airframe_block, size_t airframe_block_len, float *state, size_t state_len, const float *tick,
                     size_t tick_len, float *report, size_t report_len);
 
-/* The same with the airframe as its row of 106, as bench_prepare gives it or made by hand. The row is tested at each tick: a number
- * out of range is refused with 6 and the lowest place, the motors' torques (within 100) with 50 and the surfaces' weights (within
- * 101) with 51; the numbers of a wash that is not present are not tested. The zero row of a refused block gets 6, place 1. */
+/* The same with the airframe as its array of 106, as bench_prepare gives it or made by hand. The array is tested at each tick: a
+ * number out of range is refused with 6 and the lowest place, the motors' torques (within 100) with 50 and the surfaces' weights
+ * (within 101) with 51; the numbers of a wash that is not present are not tested. The zeros of a refused block get 6, place 1. */
 uint64_t bench_tick_prepared(const float *airframe, size_t airframe_len, float *state, size_t state_len, const float *tick,
                              size_t tick_len, float *report, size_t report_len);
 
 /* ---- A run over a trace ---- */
 
-/* Flies the ticks of the trace one after another from the state in its row of 29, puts the end state there and the number of
+/* Flies the ticks of the trace one after another from the state in its array of 29, puts the end state there and the number of
  * accepted ticks into accepted. A refused tick leaves the state, and the next one follows: the run's reply is 0 all the same, and a
- * state outside the envelope is a matter of its ticks. Refused, the first that holds: a row of another length (1); a refused
+ * state outside the envelope is a matter of its ticks. Refused, the first that holds: an array of another length (1); a refused
  * block, with bench_read_airframe's reply; a trace that is not whole ticks of 80 bytes (1). A refused run leaves the state as found
  * and counts 0. */
 uint64_t bench_run(const uint8_t *airframe_block, size_t airframe_block_len, float *state, size_t state_len, const uint8_t *trace,
                    size_t trace_len, uint64_t *accepted);
 
 /* The run above and its reflection: the same flight with left and right exchanged in airframe, state and ticks. What stands in
- * reflected at first does not matter. The end states go into both rows of 29 and the counts into both numbers. Refused as
- * bench_run, where either row is of another length (1) too: both rows are then as found and both counts 0. */
+ * reflected at first does not matter. The end states go into both arrays of 29 and the counts into both numbers. Refused as
+ * bench_run, where either array is of another length (1) too: both arrays are then as found and both counts 0. */
 uint64_t bench_mirrored_pair(const uint8_t *airframe_block, size_t airframe_block_len, float *state, size_t state_len,
                              float *reflected, size_t reflected_len, const uint8_t *trace, size_t trace_len, uint64_t *accepted,
                              uint64_t *accepted_reflected);

@@ -1,6 +1,6 @@
 //! The library's calls on one case, each with what must hold after it.
 
-use bench::raw;
+use bench::{AIRFRAME_NUMBERS, REPORT_NUMBERS, STATE_BYTES, STATE_NUMBERS, TICK_BYTES, TICK_NUMBERS, raw};
 
 use crate::guarded::{Element, Guarded};
 use crate::make::{Case, numbers};
@@ -101,8 +101,8 @@ fn prepare(counts: &mut Counts, case: &Case, read: u64) -> Held {
         raw::prepare(block.content(), row.lent())
     })?;
     left(&block, PREPARE)?;
-    read_into(&row, 106, reply, PREPARE)?;
-    let same = case.airframe.len() != 106 || reply == read;
+    read_into(&row, AIRFRAME_NUMBERS, reply, PREPARE)?;
+    let same = case.airframe.len() != AIRFRAME_NUMBERS || reply == read;
     hold(same, PREPARE, "another reply than bench_read_airframe")
 }
 
@@ -113,8 +113,8 @@ fn read_state(counts: &mut Counts, case: &Case) -> Held {
         raw::read_state(block.content(), row.lent())
     })?;
     left(&block, READ_STATE)?;
-    read_into(&row, 29, reply, READ_STATE)?;
-    let length = case.state.len() == 29 && case.state_block.len() == 116;
+    read_into(&row, STATE_NUMBERS, reply, READ_STATE)?;
+    let length = case.state.len() == STATE_NUMBERS && case.state_block.len() == STATE_BYTES;
     hold(length == (reply != 1), READ_STATE, "wrong about a length")
 }
 
@@ -131,7 +131,7 @@ fn write_state(counts: &mut Counts, case: &Case) -> Held {
         raw::write_state(row.content(), block.lent())
     })?;
     left(&row, WRITE_STATE)?;
-    if case.state.len() != 29 || case.lent_block.len() != 116 {
+    if case.state.len() != STATE_NUMBERS || case.lent_block.len() != STATE_BYTES {
         hold(reply == 1, WRITE_STATE, "took another length")?;
         return left(&block, WRITE_STATE);
     }
@@ -142,8 +142,8 @@ fn write_state(counts: &mut Counts, case: &Case) -> Held {
 
 /// Whether a row is a state within the envelope, by the library's own reading.
 fn inside(row: &[f32]) -> bool {
-    let mut block = [0; 116];
-    let mut read = [0.0; 29];
+    let mut block = [0; STATE_BYTES];
+    let mut read = [0.0; STATE_NUMBERS];
     raw::write_state(row, &mut block) == 0 && raw::read_state(&block, &mut read) == 0
 }
 
@@ -165,7 +165,7 @@ impl TickRows {
 
     fn fit(&self) -> bool {
         let lengths = [&self.state, &self.tick, &self.report].map(|row| row.content().len());
-        lengths == [29, 20, 3]
+        lengths == [STATE_NUMBERS, TICK_NUMBERS, REPORT_NUMBERS]
     }
 
     /// What must hold of them after a tick.
@@ -217,7 +217,7 @@ fn prepared_tick(counts: &mut Counts, case: &Case, row: &[f32]) -> Result<(u64, 
         )
     })?;
     left(&airframe, TICK_PREPARED)?;
-    rows.after(rows.fit() && row.len() == 106, reply, TICK_PREPARED)?;
+    rows.after(rows.fit() && row.len() == AIRFRAME_NUMBERS, reply, TICK_PREPARED)?;
     Ok((reply, rows.state.content().to_vec()))
 }
 
@@ -233,7 +233,7 @@ fn ticks(counts: &mut Counts, case: &Case, read: u64) -> Held {
     if read != 0 {
         return Ok(());
     }
-    let mut own = [0.0; 106];
+    let mut own = [0.0; AIRFRAME_NUMBERS];
     raw::prepare(&case.block, &mut own);
     let (other, same) = prepared_tick(counts, case, &own)?;
     let alike = reply == other && same_bits(&state, &same);
@@ -244,14 +244,14 @@ fn ticks(counts: &mut Counts, case: &Case, read: u64) -> Held {
 fn run_reply(case: &Case, fit: bool, read: u64) -> u64 {
     match (fit, read) {
         (false, _) => 1,
-        (true, 0) => u64::from(!case.trace.len().is_multiple_of(80)),
+        (true, 0) => u64::from(!case.trace.len().is_multiple_of(TICK_BYTES)),
         (true, refused) => refused,
     }
 }
 
 fn after_run(row: &Guarded<f32>, reply: u64, count: u64, case: &Case, call: usize) -> Held {
     whole(row, call)?;
-    let most = case.trace.len() as u64 / 80;
+    let most = case.trace.len() as u64 / TICK_BYTES as u64;
     hold(count <= most, call, "more accepted ticks than ticks")?;
     if reply != 0 {
         hold(count == 0, call, "refused, but counts ticks")?;
@@ -275,7 +275,7 @@ fn run(counts: &mut Counts, case: &Case, read: u64) -> Held {
     })?;
     left(&block, RUN)?;
     left(&trace, RUN)?;
-    let right = run_reply(case, case.state.len() == 29, read);
+    let right = run_reply(case, case.state.len() == STATE_NUMBERS, read);
     hold(reply == right, RUN, "another reply than its parts give")?;
     after_run(&state, reply, accepted, case, RUN)
 }
@@ -291,7 +291,7 @@ fn pair(counts: &mut Counts, case: &Case, read: u64) -> Held {
     })?;
     left(&block, PAIR)?;
     left(&trace, PAIR)?;
-    let fit = case.state.len() == 29 && case.reflected.len() == 29;
+    let fit = case.state.len() == STATE_NUMBERS && case.reflected.len() == STATE_NUMBERS;
     let right = run_reply(case, fit, read);
     hold(reply == right, PAIR, "another reply than its parts give")?;
     hold(both[0] == both[1], PAIR, "the counts differ")?;

@@ -17,7 +17,7 @@ use std::path::Path;
 use std::process::ExitCode;
 use std::time::{Duration, Instant};
 
-use bench::raw;
+use bench::{AIRFRAME_NUMBERS, raw};
 use calls::{Counts, NAMES};
 use rng::Rng;
 use seeds::Flight;
@@ -57,7 +57,7 @@ fn read(arguments: &[String]) -> Option<(u64, u64, &Path, &Path)> {
 fn case(index: u64, seed: u64, flights: &[Flight]) -> make::Case {
     let rng = &mut Rng::new(seed ^ index.wrapping_mul(0xE703_7ED1_A0B4_28DB));
     let flight = &flights[rng.below(flights.len())];
-    let mut prepared = [0.0; 106];
+    let mut prepared = [0.0; AIRFRAME_NUMBERS];
     raw::prepare(&flight.airframe, &mut prepared);
     make::case(rng, flight, &prepared, (index % LENGTHS) as usize)
 }

@@ -1,5 +1,7 @@
 //! Bytes and rows to hand to the library: random ones, and valid ones damaged.
 
+use bench::{AIRFRAME_BYTES, MOST_ROWS, REPORT_NUMBERS, ROW_BYTES, STATE_NUMBERS, TICK_NUMBERS, WASH_BYTES};
+
 use crate::rng::Rng;
 use crate::seeds::Flight;
 
@@ -48,7 +50,7 @@ fn random_bytes(rng: &mut Rng, length: usize) -> Vec<u8> {
 fn behind_header(rng: &mut Rng, length: usize) -> Vec<u8> {
     let mut bytes = random_bytes(rng, length);
     let wash = rng.below(2);
-    let rows = (length.saturating_sub(166 + 28 * wash) / 13).min(16);
+    let rows = (length.saturating_sub(AIRFRAME_BYTES + WASH_BYTES * wash) / ROW_BYTES).min(MOST_ROWS);
     if length >= 2 {
         bytes[0] = 0x10 | (rng.below(2) << 2 | wash << 1) as u8;
         bytes[1] = rows as u8;
@@ -136,7 +138,7 @@ fn row(rng: &mut Rng, valid: Vec<f32>) -> Vec<f32> {
 
 fn tick_row(trace: &[u8]) -> Vec<f32> {
     let mut row = numbers(trace);
-    row.resize(20, 0.01);
+    row.resize(TICK_NUMBERS, 0.01);
     row
 }
 
@@ -150,8 +152,8 @@ pub fn case(rng: &mut Rng, flight: &Flight, prepared: &[f32], length: usize) -> 
         lent_block: block(rng, &flight.state, any),
         airframe: row(rng, prepared.to_vec()),
         state: row(rng, numbers(&flight.state)),
-        reflected: random_row(rng, 29),
+        reflected: random_row(rng, STATE_NUMBERS),
         tick: row(rng, tick_row(&flight.trace)),
-        report: random_row(rng, 3),
+        report: random_row(rng, REPORT_NUMBERS),
     }
 }

@@ -4,6 +4,7 @@
 use std::fs;
 use std::path::Path;
 
+use bench::TICK_NUMBERS;
 use oracle::blocks::{HEADER_BYTES, Header, ROW_BYTES, STATE_BYTES};
 use oracle::rng::Rng;
 
@@ -15,7 +16,7 @@ pub struct Input {
     pub state: Vec<u8>,
     /// The ticks as bytes, and as numbers.
     pub trace: Vec<u8>,
-    pub rows: Vec<[f32; 20]>,
+    pub rows: Vec<[f32; TICK_NUMBERS]>,
 }
 
 impl Input {
@@ -48,13 +49,13 @@ fn input(name: &'static str, sample: &Path, ticks: usize) -> Input {
 }
 
 /// Commands that wander around the middle, a light wind, 1/400 s a tick.
-fn rows(ticks: usize) -> Vec<[f32; 20]> {
+fn rows(ticks: usize) -> Vec<[f32; TICK_NUMBERS]> {
     let mut rng = Rng::new(1);
     (0..ticks).map(|_| row(&mut rng)).collect()
 }
 
-fn row(rng: &mut Rng) -> [f32; 20] {
-    let mut row = [0.0025; 20];
+fn row(rng: &mut Rng) -> [f32; TICK_NUMBERS] {
+    let mut row = [0.0025; TICK_NUMBERS];
     for (at, number) in row.iter_mut().enumerate().skip(1) {
         *number = match at {
             1..4 => rng.between(-2.0, 2.0),

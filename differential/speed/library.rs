@@ -1,6 +1,6 @@
 //! The library's calls, through the wrapper of bindings/.
 
-use bench::{Airframe, State};
+use bench::{Airframe, State, Tick};
 
 use crate::inputs::Input;
 
@@ -19,7 +19,7 @@ impl Prepared {
     }
 }
 
-pub fn tick_prepared(prepared: &mut Prepared, tick: &[f32; 20]) -> bool {
+pub fn tick_prepared(prepared: &mut Prepared, tick: &Tick) -> bool {
     prepared.airframe.tick(&mut prepared.state, tick).is_ok()
 }
 

@@ -107,7 +107,7 @@ fn call(input: &Input, tests: Tests) -> u64 {
     accepted
 }
 
-fn tick_of(row: &[f32; 20]) -> Tick {
+fn tick_of(row: &bench::Tick) -> Tick {
     let mut motors = [0.0; 8];
     let mut servos = [0.0; 8];
     motors.copy_from_slice(&row[4..12]);
@@ -127,7 +127,7 @@ fn driver(input: &Input, tests: Tests) -> Option<Driver> {
 }
 
 /// The library, a tick a call.
-fn one_by_one(input: &Input, tick: fn(&mut Prepared, &[f32; 20]) -> bool) -> u64 {
+fn one_by_one(input: &Input, tick: fn(&mut Prepared, &bench::Tick) -> bool) -> u64 {
     let mut prepared = Prepared::new(input);
     let mut accepted = 0;
     for row in &input.rows {

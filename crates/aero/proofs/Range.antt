@@ -1,6 +1,6 @@
--- Where the stall blend's exponents lie. Assumes nothing.
+-- Where the stall blend's exponents lie: what is clamped lies between the bounds. Assumes nothing.
 use lib.Dec.{T}
-use lib.Ieee.{Float, fin, isNan, le, lt, neg}
+use lib.Ieee.{Float, fin, isNan, le, lt, neg, round}
 use lib.Ieee.Scale.{finite}
 use lib.IntN.{pos}
 use mathlib.Core.Bool.{Bool, cond, false, not, true}
@@ -20,5 +20,5 @@ clamp-in lo hi x p q m n = go (lt x lo) (lt hi x) (not-lt→le x lo n (finite-nu
 
 -- what `expf` is given is from -60 to 60, unless it is a NaN
 pub blend-argument : (x : Float) → T (not (isNan x)) → Within (neg sixty) sixty (clamp (neg sixty) sixty x)
-unfolding neg
+unfolding neg round
 blend-argument x n = clamp-in (fin true 15 (pos 2)) sixty x tt tt (unfold le in tt) n

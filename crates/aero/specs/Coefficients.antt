@@ -1,21 +1,20 @@
--- The dimensionless coefficients (01, module 6), in the stability-derivative form of Beard and McLain, Small Unmanned Aircraft, ch. 4 (below: B&M), in the order of operations
--- that the Rust spells. Where the Rust departs from the book, a line says so. Definitions only.
--- The book was not at hand: its formulas stand here as they are commonly quoted, and the numbers of equations and sections are from memory, not yet held against a copy
--- (docs/DIFFERENCES.md).
-use lib.Ieee.{Float, fin, le, lt, nan, ne, neg}
-use lib.IntN.{negsuc, pos}
-use mathlib.Core.Bool.{cond, false}
+-- The dimensionless coefficients (01, module 6), in the stability-derivative form of Beard and McLain, Small Unmanned Aircraft, ch. 4
+-- (below: B&M), in the order of operations that the Rust spells. Where the Rust departs from the book, a line says so. Definitions only.
+-- The book was not at hand: its formulas stand here as they are commonly quoted, and the numbers of equations and sections are from
+-- memory, not yet held against a copy (docs/DIFFERENCES.md).
+use lib.Ieee.{Float, le, lt, nan, ne, neg}
+use mathlib.Core.Bool.{cond}
 use Rattle.fixed_wing.specs.Falloff.{aspectRatio}
 use Rattle.fixed_wing.specs.declared.AeroCoefficients.{AeroCoefficients}
 use Rattle.fixed_wing.specs.declared.FixedWingModel.{FixedWingModel}
-use Rattle.float.specs.Notation.{_⊕_, _⊖_, _⊗_, _⊘_, clamp, half, nought, one, sizeOf, two}
+use Rattle.float.specs.Notation.{_⊕_, _⊖_, _⊗_, _⊘_, clamp, half, nought, one, rounded, sizeOf, two}
 use Rattle.libm.specs.Atan.{pi}
 use Rattle.libm.specs.Exp.{expOf}
 
 -- ---- the stall blend, B&M eq. 4.10: σ(α) = (1 + e^(-M(α-α0)) + e^(M(α+α0))) / ((1 + e^(-M(α-α0))) (1 + e^(M(α+α0))))
 -- departs: an exponent is clamped to ±60 first
 abbrev pub sixty : Float
-sixty = fin false 15 (pos 2)
+sixty = rounded 60 1
 
 unfoldable pub exponent : Float → Float
 exponent x = expOf (clamp (neg sixty) sixty x)
@@ -59,10 +58,11 @@ unfoldable pub flatPlateDrag : AeroCoefficients → Float → Float
 flatPlateDrag c s = c .«c_drag_0» ⊕ flatPlatePressureDrag s
 
 -- ---- pitch, B&M ch. 4.2: Cm0 + Cmα α
--- departs: on sin α, not α; and blended past the stall into a flat plate's, which the book has not: its normal force, lift · cos α + drag · sin α, at a centre of pressure
--- from the quarter chord at α 0 to the three-quarter chord at ±180°, about a centre of gravity that is ahead of the quarter chord by -Cmα / CLα. Without the knee
+-- departs: on sin α, not α; and blended past the stall into a flat plate's, which the book has not: its normal force, lift · cos α +
+-- drag · sin α, at a centre of pressure from the quarter chord at α 0 to the three-quarter chord at ±180°, about a centre of gravity
+-- that is ahead of the quarter chord by -Cmα / CLα. Without the knee
 abbrev pub quarterChord : Float
-quarterChord = fin false 1 (negsuc 1)
+quarterChord = rounded 25 100
 
 unfoldable pub staticMargin : AeroCoefficients → Float
 staticMargin c = cond (lt nought (c .«c_lift_alpha»)) (neg (c .«c_pitch_alpha») ⊘ c .«c_lift_alpha») nought

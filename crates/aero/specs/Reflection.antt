@@ -1,4 +1,5 @@
--- A wrench seen in a mirror of left and right (01, "Reflection negates"): the force as a vector, the torque as an axis, alpha the same and beta the opposite. Definitions only.
+-- A wrench seen in a mirror of left and right (01, "Reflection negates"): the force as a vector, the torque as an
+-- axis, alpha the same and beta the opposite. Definitions only.
 use mathlib.Core.Bool.{false, true}
 use Rattle.float.specs.Same.{Rel}
 use Rattle.vector.specs.Reflection.{VecRel}

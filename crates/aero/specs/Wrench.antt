@@ -26,7 +26,8 @@ washRateScale m w density = half ⊗ density ⊗ w .«damping_mps» ⊗ m .«win
 unfoldable pub withWash : Float → Float → Float → Float
 withWash free pa area = atLeastZero (free ⊕ pa ⊗ area)
 
--- ---- rate terms, Beard and McLain, Small Unmanned Aircraft, ch. 4.2 and 4.3 (as commonly quoted, sections from memory: docs/DIFFERENCES.md): ½ρV²S·b·(Clp (b/2V) p + Clr (b/2V) r), ½ρV²S·c·Cmq (c/2V) q
+-- ---- rate terms, Beard and McLain, Small Unmanned Aircraft, ch. 4.2 and 4.3 (as commonly quoted, sections from memory:
+-- docs/DIFFERENCES.md): ½ρV²S·b·(Clp (b/2V) p + Clr (b/2V) r), ½ρV²S·c·Cmq (c/2V) q
 -- departs: written per unit of airspeed, scale = ½ρVS, and not divided by it, so that they vanish smoothly with the airspeed
 unfoldable pub rateMoments : FixedWingModel → Float → Vec3 → Vec3
 rateMoments m scale rates =
@@ -41,7 +42,10 @@ aileronMoment m roll d = vec (roll ⊗ m .«span_m» ⊗ m .aero .«c_roll_ailer
 
 unfoldable pub elevatorAndRudder : FixedWingModel → Vec3 → Vec3
 elevatorAndRudder m d =
-    vec (m .«span_m» ⊗ m .aero .«c_roll_rudder» ⊗ d .z) (m .«chord_m» ⊗ m .aero .«c_pitch_elevator» ⊗ d .y) (m .«span_m» ⊗ m .aero .«c_yaw_rudder» ⊗ d .z)
+    vec
+    (m .«span_m» ⊗ m .aero .«c_roll_rudder» ⊗ d .z)
+    (m .«chord_m» ⊗ m .aero .«c_pitch_elevator» ⊗ d .y)
+    (m .«span_m» ⊗ m .aero .«c_yaw_rudder» ⊗ d .z)
 
 unfoldable pub surfaceWrench : FixedWingModel → Float → Float → Vec3 → Aero
 surfaceWrench m roll area d = record {
@@ -53,7 +57,11 @@ surfaceWrench m roll area d = record {
 
 -- the wash has one pressure for the roll action and one for the others
 unfoldable pub washedSurfaces : FixedWingModel → Wash → Float → Vec3 → Aero
-washedSurfaces m w free d = surfaceWrench m (withWash free (w .«roll_pressure_pa») (m .«wing_area_m2»)) (withWash free (w .«pressure_pa») (m .«wing_area_m2»)) d
+washedSurfaces m w free d =
+    surfaceWrench m
+    (withWash free (w .«roll_pressure_pa») (m .«wing_area_m2»))
+    (withWash free (w .«pressure_pa») (m .«wing_area_m2»))
+    d
 
 -- ---- the wash on the wing: always, and past the stall flying nose first by the free stream's share of the pressure
 unfoldable pub washPitch : FixedWingModel → Wash → Vec3
@@ -66,9 +74,13 @@ unfoldable pub stallShare : Flow → Float → Float → Float
 stallShare f free pa = f .blend ⊗ freeShare free (free ⊕ atLeastZero pa) ⊗ atLeastZero (f .«cos_alpha»)
 
 unfoldable pub stallWash : FixedWingModel → Flow → Float → Wash → Vec3
-stallWash m f area w = vec nought (stallShare f (area ⊘ m .«wing_area_m2») (w .«pressure_pa») ⊗ w .«stall_pitch_moment_pa» ⊗ m .«wing_area_m2» ⊗ m .«chord_m») nought
+stallWash m f area w =
+    vec nought
+    (stallShare f (area ⊘ m .«wing_area_m2») (w .«pressure_pa») ⊗ w .«stall_pitch_moment_pa» ⊗ m .«wing_area_m2» ⊗ m .«chord_m»)
+    nought
 
--- ---- the flow in the plane of symmetry, which lift, drag and the pitch moment take: α = atan2(w, u), and the pressure of the speed √(u² + w²)
+-- ---- the flow in the plane of symmetry, which lift, drag and the pitch moment take: α = atan2(w, u), and the pressure of the speed
+-- √(u² + w²)
 -- departs: the book takes the whole airspeed's pressure for them
 unfoldable pub symmetricSpeed : Vec3 → Float
 symmetricSpeed air = sqrtOf binary32 (air .x ⊗ air .x ⊕ air .z ⊗ air .z)
@@ -128,7 +140,8 @@ surfaceFree m f area = area ⊗ (one ⊖ m .aero .«surface_stall_share» ⊗ f 
 
 unfoldable pub torqueAt : FixedWingModel → Float → Flow → Float → Vec3 → Wash → Float → Float → Vec3
 torqueAt m speed f beta rates w density area =
-    addOf (addOf (addOf (staticMoments m f area beta) (washPitch m w)) (stallWash m f area w)) (rateMoments m (area ⊘ speed ⊕ washRateScale m w density) rates)
+    addOf (addOf (addOf (staticMoments m f area beta) (washPitch m w)) (stallWash m f area w))
+    (rateMoments m (area ⊘ speed ⊕ washRateScale m w density) rates)
 
 unfoldable pub movingAt : FixedWingModel → Float → Flow → Float → Vec3 → Vec3 → Wash → Float → Float → Aero
 movingAt m speed f beta rates d w density area =
@@ -154,4 +167,6 @@ stillOf m rates d w density =
 -- "air speed not above 0, NaN included, takes the still branch, alpha and beta 0"
 unfoldable pub wrenchOf : FixedWingModel → Vec3 → Vec3 → Vec3 → Wash → Float → Aero
 wrenchOf m air rates d w density =
-    cond (lt nought (normOf air)) (movingOf m (normOf air) (flowOf m air density) (sideslip (air .y) (normOf air)) rates d w density) (stillOf m rates d w density)
+    cond (lt nought (normOf air))
+    (movingOf m (normOf air) (flowOf m air density) (sideslip (air .y) (normOf air)) rates d w density)
+    (stillOf m rates d w density)

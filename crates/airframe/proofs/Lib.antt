@@ -1,3 +1,4 @@
 -- Laws of the airframe.
 pub mod Range
 pub mod Mirror
+pub mod Parts

@@ -1,43 +1,105 @@
 -- The airframe's numbers by place (01, "Airframe numbers by place"). Definitions only.
+use Prim.Native.Nat.{_+_, ℕ}
 use lib.Ieee.{Float}
 use lib.ListN.{replicate}
-use mathlib.Core.Bool.{false}
+use mathlib.Core.Bool.{Bool, false, true}
 use mathlib.Core.List.{List, [], _∷_}
 use Rattle.fixed_wing.specs.declared.AeroCoefficients.{AeroCoefficients}
 use Rattle.fixed_wing.specs.declared.FixedWingModel.{FixedWingModel}
 use Rattle.fixed_wing.specs.declared.ThrustFalloff.{ThrustFalloff}
 use Rattle.fixed_wing.specs.declared.ThrustFalloff.the-variants.{Linear, PitchSpeed}
 use Rattle.float.specs.Notation.{nought}
+use Rattle.motors.specs.Motor.{undriven}
+use Rattle.motors.specs.declared.MotorGroup.{MotorGroup}
+use Rattle.motors.specs.declared.MotorLayout.{MotorLayout}
 use Rattle.tailsitter_model.specs.declared.PropWash.{PropWash}
 use Rattle.vector.specs.Vector.{zeroVec}
+use Rattle.vector.specs.declared.Vec3.{Vec3}
 use Rattle.airframe.specs.declared.Airframe.{Airframe}
+use Rattle.airframe.specs.declared.Segment.{Segment}
 
 abbrev pub falloffNumber : ThrustFalloff → Float
 falloffNumber (Linear n) = n
 falloffNumber (PitchSpeed n) = n
 
--- places 1 to 7: mass, inertia, area, span, chord; 8 to 30 the coefficients; 31 to 33 deflections; 34 to 39 servos, motors and falloff
-unfoldable pub modelNumbers : FixedWingModel → List Float → List Float
-modelNumbers m more =
-    m .«mass_kg» ∷ m .«inertia_kgm2» .x ∷ m .«inertia_kgm2» .y ∷ m .«inertia_kgm2» .z ∷ m .«wing_area_m2» ∷ m .«span_m» ∷
-    m .«chord_m» ∷ m .aero .«c_lift_0» ∷ m .aero .«c_lift_alpha» ∷ m .aero .«alpha_stall_rad» ∷ m .aero .«stall_sharpness» ∷ m .aero .«c_drag_0» ∷
-    m .aero .oswald ∷ m .aero .«c_side_beta» ∷ m .aero .«c_side_rudder» ∷ m .aero .«c_roll_beta» ∷ m .aero .«c_roll_p» ∷ m .aero .«c_roll_r» ∷
-    m .aero .«c_roll_aileron» ∷ m .aero .«c_roll_rudder» ∷ m .aero .«c_pitch_0» ∷ m .aero .«c_pitch_alpha» ∷ m .aero .«post_stall_pitch_share» ∷ m .aero .«c_pitch_q» ∷
-    m .aero .«c_pitch_elevator» ∷ m .aero .«surface_stall_share» ∷ m .aero .«c_yaw_beta» ∷ m .aero .«c_yaw_p» ∷ m .aero .«c_yaw_r» ∷ m .aero .«c_yaw_rudder» ∷
-    m .«max_deflection_rad» .x ∷ m .«max_deflection_rad» .y ∷ m .«max_deflection_rad» .z ∷ m .«servo_time_constant_s» ∷ m .«max_thrust_n» ∷ m .«thrust_exponent» ∷
-    falloffNumber (m .«thrust_falloff») ∷ m .«thrust_line_below_cg_m» ∷ m .«motor_time_constant_s» ∷ more
+-- ---- segments of the numbers: 41 that every airframe has, places 1 to 41, and the wash's 7, places 42 to 48, if there is one
+abbrev pub baseCount : ℕ
+baseCount = 41
 
--- places 42 to 48: disc, surface and roll fraction, pitch and stall pitch moment, sink loss, damping
-unfoldable pub washNumbers : PropWash → List Float
-washNumbers w = w .«disc_area_m2» ∷ w .«surface_fraction» ∷ w .«roll_fraction» ∷ w .«pitch_moment» ∷ w .«stall_pitch_moment» ∷ w .«sink_loss» ∷ w .«damping_fraction» ∷ []
+abbrev pub washFirst : ℕ
+washFirst = baseCount
 
--- 40 the arm, 41 the yaw torque
+abbrev pub washCount : ℕ
+washCount = 7
+
+abbrev pub numbersCount : ℕ
+numbersCount = washFirst + washCount
+
+abbrev pub baseSegment : Segment
+baseSegment = record { present = true; first = 0; count = baseCount; place = 1 }
+
+abbrev pub washSegment : Bool → Segment
+washSegment present = record { present = present; first = washFirst; count = washCount; place = 42 }
+
+-- ---- the numbers, a segment after the other
+
+-- 8 to 30, the coefficients in their own order
+unfoldable pub coefficientNumbers : AeroCoefficients → List Float → List Float
+coefficientNumbers c more =
+    c .«c_lift_0» ∷ c .«c_lift_alpha» ∷ c .«alpha_stall_rad» ∷ c .«stall_sharpness» ∷ c .«c_drag_0» ∷ c .oswald ∷ c .«c_side_beta» ∷
+    c .«c_side_rudder» ∷ c .«c_roll_beta» ∷ c .«c_roll_p» ∷ c .«c_roll_r» ∷ c .«c_roll_aileron» ∷ c .«c_roll_rudder» ∷ c .«c_pitch_0» ∷
+    c .«c_pitch_alpha» ∷ c .«post_stall_pitch_share» ∷ c .«c_pitch_q» ∷ c .«c_pitch_elevator» ∷ c .«surface_stall_share» ∷
+    c .«c_yaw_beta» ∷ c .«c_yaw_p» ∷ c .«c_yaw_r» ∷ c .«c_yaw_rudder» ∷ more
+
+abbrev vecThen : Vec3 → List Float → List Float
+vecThen v more = v .x ∷ v .y ∷ v .z ∷ more
+
+-- 1 mass, 2 to 4 inertia, 5 area, 6 span, 7 chord, 8 to 30 the coefficients, 31 to 33 deflections, 34 servo constant, 35 thrust,
+-- 36 exponent, 37 falloff, 38 thrust line, 39 motor constant, 40 the arm, 41 the yaw torque
+unfoldable pub baseNumbers : FixedWingModel → MotorGroup → List Float → List Float
+baseNumbers m g more =
+    m .«mass_kg» ∷ vecThen (m .«inertia_kgm2») (m .«wing_area_m2» ∷ m .«span_m» ∷ m .«chord_m» ∷
+    coefficientNumbers (m .aero)
+    (vecThen (m .«max_deflection_rad») (m .«servo_time_constant_s» ∷ g .layout .«max_thrust_n» ∷ g .layout .«thrust_exponent» ∷
+    falloffNumber (m .«thrust_falloff») ∷ m .«thrust_line_below_cg_m» ∷ g .«time_constant_s» ∷ g .layout .«moment_arm_m» ∷
+    g .layout .«yaw_torque_per_thrust_m» ∷ more)))
+
+-- 42 disc, 43 surface and 44 roll fraction, 45 pitch and 46 stall pitch moment, 47 sink loss, 48 damping
+unfoldable pub washNumbers : PropWash → List Float → List Float
+washNumbers w more =
+    w .«disc_area_m2» ∷ w .«surface_fraction» ∷ w .«roll_fraction» ∷ w .«pitch_moment» ∷ w .«stall_pitch_moment» ∷ w .«sink_loss» ∷
+    w .«damping_fraction» ∷ more
+
 unfoldable pub numbersOf : Airframe → List Float
-numbersOf a = modelNumbers (a .model) (a .«moment_arm_m» ∷ a .«yaw_torque_per_thrust_m» ∷ washNumbers (a .wash))
+numbersOf a = baseNumbers (a .model) (a .motors) (washNumbers (a .wash) [])
 
 -- what a refused read returns: zeros, falloff Linear 0, no wash, no motor used
 unfoldable pub zeroCoefficients : AeroCoefficients
-zeroCoefficients = record { «c_lift_0» = nought; «c_lift_alpha» = nought; «alpha_stall_rad» = nought; «stall_sharpness» = nought; «c_drag_0» = nought; oswald = nought; «c_side_beta» = nought; «c_side_rudder» = nought; «c_roll_beta» = nought; «c_roll_p» = nought; «c_roll_r» = nought; «c_roll_aileron» = nought; «c_roll_rudder» = nought; «c_pitch_0» = nought; «c_pitch_alpha» = nought; «post_stall_pitch_share» = nought; «c_pitch_q» = nought; «c_pitch_elevator» = nought; «surface_stall_share» = nought; «c_yaw_beta» = nought; «c_yaw_p» = nought; «c_yaw_r» = nought; «c_yaw_rudder» = nought }
+zeroCoefficients = record {
+  «c_lift_0» = nought;
+  «c_lift_alpha» = nought;
+  «alpha_stall_rad» = nought;
+  «stall_sharpness» = nought;
+  «c_drag_0» = nought;
+  oswald = nought;
+  «c_side_beta» = nought;
+  «c_side_rudder» = nought;
+  «c_roll_beta» = nought;
+  «c_roll_p» = nought;
+  «c_roll_r» = nought;
+  «c_roll_aileron» = nought;
+  «c_roll_rudder» = nought;
+  «c_pitch_0» = nought;
+  «c_pitch_alpha» = nought;
+  «post_stall_pitch_share» = nought;
+  «c_pitch_q» = nought;
+  «c_pitch_elevator» = nought;
+  «surface_stall_share» = nought;
+  «c_yaw_beta» = nought;
+  «c_yaw_p» = nought;
+  «c_yaw_r» = nought;
+  «c_yaw_rudder» = nought;
+}
 
 unfoldable pub zeroModel : FixedWingModel
 zeroModel = record {
@@ -49,24 +111,34 @@ zeroModel = record {
   aero = zeroCoefficients;
   «max_deflection_rad» = zeroVec;
   «servo_time_constant_s» = nought;
-  «max_thrust_n» = nought;
-  «thrust_exponent» = nought;
   «thrust_falloff» = Linear nought;
   «thrust_line_below_cg_m» = nought;
-  «motor_time_constant_s» = nought;
 }
 
 unfoldable pub zeroWash : PropWash
-zeroWash = record { «disc_area_m2» = nought; «surface_fraction» = nought; «roll_fraction» = nought; «damping_fraction» = nought; «sink_loss» = nought; «pitch_moment» = nought; «stall_pitch_moment» = nought }
+zeroWash = record {
+  «disc_area_m2» = nought;
+  «surface_fraction» = nought;
+  «roll_fraction» = nought;
+  «damping_fraction» = nought;
+  «sink_loss» = nought;
+  «pitch_moment» = nought;
+  «stall_pitch_moment» = nought;
+}
+
+unfoldable pub zeroLayout : MotorLayout
+zeroLayout = record {
+  «moment_arm_m» = nought;
+  «yaw_torque_per_thrust_m» = nought;
+  «max_thrust_n» = nought;
+  «thrust_exponent» = nought;
+}
 
 unfoldable pub zeroAirframe : Airframe
 zeroAirframe = record {
   model = zeroModel;
-  «moment_arm_m» = nought;
-  «yaw_torque_per_thrust_m» = nought;
   «wash_present» = false;
   wash = zeroWash;
-  used = replicate 8 false;
-  «torque_per_thrust_m» = replicate 8 zeroVec;
+  motors = undriven zeroLayout nought;
   weights = replicate 8 zeroVec;
 }

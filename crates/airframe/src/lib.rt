@@ -1,138 +1,129 @@
-// The airframe: its 41 numbers under their names, the wash with its flag, the motors' torques and used flags, and the surfaces'
-// weights.
+// The airframe: its numbers under their names, the wash with its flag, the motors along body x and the surfaces' weights; its
+// acceptance and its reflection.
 ghost use mathlib.Core.Path.{_≡_};
-ghost use Prim.Native.Nat.{_≤_};
+ghost use Prim.Native.Nat.{_+_, _≤_};
 ghost use Rattle.airframe.specs.Acceptance as Acceptance;
 ghost use Rattle.airframe.specs.Numbers as Numbers;
 ghost use Rattle.airframe.specs.Reflection as Reflection;
-ghost use mathlib.Core.List.{map};
-ghost use Rattle.float.specs.Ordered.{allPass};
-ghost use Rattle.vector.specs.Reflection.{reflectAxis};
+ghost use Rattle.ordered.specs.Contracts.{allPass};
+ghost use Rattle.ordered.specs.Ordered.{firstFail};
 use fixed_wing::AeroCoefficients;
 use fixed_wing::FixedWingModel;
 use fixed_wing::ThrustFalloff;
+use motors::MotorGroup;
+use motors::MotorLayout;
 use tailsitter_model::PropWash;
 use vector::Vec3;
 
 pub struct Airframe {
     pub model: FixedWingModel,
-    // Places 40 and 41: the motor layout's arm and yaw torque per newton of thrust.
-    pub moment_arm_m: f32,
-    pub yaw_torque_per_thrust_m: f32,
     // Whether there is a wash; an absent wash's numbers are not used.
     pub wash_present: bool,
     pub wash: PropWash,
-    pub used: [bool; 8],
-    pub torque_per_thrust_m: [Vec3; 8],
+    // The motors along body x.
+    pub motors: MotorGroup,
+    // Each servo slot's share of the surfaces' deflections.
     pub weights: [Vec3; 8],
 }
 
-// Each place's least and largest number; the falloff's least number is the Linear one's.
-pub const LOW: [f32; 48] = [
-    0.01,
-    0.0001,
-    0.0001,
-    0.0001,
-    0.01,
-    0.1,
-    0.01,
-    -100.0,
-    -100.0,
-    0.0,
-    0.0,
-    -100.0,
-    0.1,
-    -100.0,
-    -100.0,
-    -100.0,
-    -100.0,
-    -100.0,
-    -100.0,
-    -100.0,
-    -100.0,
-    -100.0,
-    0.0,
-    -100.0,
-    -100.0,
-    0.0,
-    -100.0,
-    -100.0,
-    -100.0,
-    -100.0,
-    -1.6,
-    -1.6,
-    -1.6,
-    0.001,
-    0.01,
-    2.0,
-    0.0,
-    -10.0,
-    0.001,
-    0.0,
-    -10.0,
-    0.001,
-    0.0,
-    0.0,
-    -100.0,
-    -100.0,
-    0.0,
-    0.0,
+// The numbers stand in segments: those that every airframe has, and the wash's.
+pub const BASE_COUNT: usize = 41;
+
+pub const WASH_FIRST: usize = BASE_COUNT;
+
+pub const WASH_COUNT: usize = 7;
+
+pub const NUMBERS: usize = WASH_FIRST + WASH_COUNT;
+
+// Of a segment: whether it is there, the index of its first number, how many numbers it has, and the place of the first.
+pub struct Segment {
+    pub present: bool,
+    pub first: usize,
+    pub count: usize,
+    pub place: u32,
+}
+
+// The least and the largest number of a place.
+pub struct Limits(f32, f32);
+
+pub const LIMITS: [Limits; NUMBERS] = [
+    Limits(0.01, 1000.0), // 1 mass_kg
+    Limits(0.0001, 1000.0), // 2 inertia_kgm2, roll
+    Limits(0.0001, 1000.0), // 3 inertia_kgm2, pitch
+    Limits(0.0001, 1000.0), // 4 inertia_kgm2, yaw
+    Limits(0.01, 100.0), // 5 wing_area_m2
+    Limits(0.1, 100.0), // 6 span_m
+    Limits(0.01, 10.0), // 7 chord_m
+    Limits(-100.0, 100.0), // 8 c_lift_0
+    Limits(-100.0, 100.0), // 9 c_lift_alpha
+    Limits(0.0, 1.6), // 10 alpha_stall_rad
+    Limits(0.0, 1000.0), // 11 stall_sharpness
+    Limits(-100.0, 100.0), // 12 c_drag_0
+    Limits(0.1, 2.0), // 13 oswald
+    Limits(-100.0, 100.0), // 14 c_side_beta
+    Limits(-100.0, 100.0), // 15 c_side_rudder
+    Limits(-100.0, 100.0), // 16 c_roll_beta
+    Limits(-100.0, 100.0), // 17 c_roll_p
+    Limits(-100.0, 100.0), // 18 c_roll_r
+    Limits(-100.0, 100.0), // 19 c_roll_aileron
+    Limits(-100.0, 100.0), // 20 c_roll_rudder
+    Limits(-100.0, 100.0), // 21 c_pitch_0
+    Limits(-100.0, 100.0), // 22 c_pitch_alpha
+    Limits(0.0, 1.0), // 23 post_stall_pitch_share
+    Limits(-100.0, 100.0), // 24 c_pitch_q
+    Limits(-100.0, 100.0), // 25 c_pitch_elevator
+    Limits(0.0, 1.0), // 26 surface_stall_share
+    Limits(-100.0, 100.0), // 27 c_yaw_beta
+    Limits(-100.0, 100.0), // 28 c_yaw_p
+    Limits(-100.0, 100.0), // 29 c_yaw_r
+    Limits(-100.0, 100.0), // 30 c_yaw_rudder
+    Limits(-1.6, 1.6), // 31 max_deflection_rad, aileron
+    Limits(-1.6, 1.6), // 32 max_deflection_rad, elevator
+    Limits(-1.6, 1.6), // 33 max_deflection_rad, rudder
+    Limits(0.001, 10.0), // 34 servo_time_constant_s
+    Limits(0.01, 10000.0), // 35 max_thrust_n
+    Limits(2.0, 2.0), // 36 thrust_exponent
+    Limits(0.0, 10000.0), // 37 thrust_falloff, Linear's
+    Limits(-10.0, 10.0), // 38 thrust_line_below_cg_m
+    Limits(0.001, 10.0), // 39 time_constant_s of the motors
+    Limits(0.0, 10.0), // 40 moment_arm_m
+    Limits(-10.0, 10.0), // 41 yaw_torque_per_thrust_m
+    Limits(0.001, 100.0), // 42 disc_area_m2
+    Limits(0.0, 10.0), // 43 surface_fraction
+    Limits(0.0, 10.0), // 44 roll_fraction
+    Limits(-100.0, 100.0), // 45 pitch_moment
+    Limits(-100.0, 100.0), // 46 stall_pitch_moment
+    Limits(0.0, 10.0), // 47 sink_loss
+    Limits(0.0, 10.0), // 48 damping_fraction
 ];
 
-pub const HIGH: [f32; 48] = [
-    1000.0,
-    1000.0,
-    1000.0,
-    1000.0,
-    100.0,
-    100.0,
-    10.0,
-    100.0,
-    100.0,
-    1.6,
-    1000.0,
-    100.0,
-    2.0,
-    100.0,
-    100.0,
-    100.0,
-    100.0,
-    100.0,
-    100.0,
-    100.0,
-    100.0,
-    100.0,
-    1.0,
-    100.0,
-    100.0,
-    1.0,
-    100.0,
-    100.0,
-    100.0,
-    100.0,
-    1.6,
-    1.6,
-    1.6,
-    10.0,
-    10000.0,
-    2.0,
-    10000.0,
-    10.0,
-    10.0,
-    10.0,
-    10.0,
-    100.0,
-    10.0,
-    10.0,
-    100.0,
-    100.0,
-    10.0,
-    10.0,
-];
+impl Segment {
+    pub fn base() -> Self
+        ensures { λ r. ⌜ r ≡ Numbers.baseSegment ⌝ }
+    {
+        Segment {
+            present: true,
+            first: 0,
+            count: BASE_COUNT,
+            place: 1,
+        }
+    }
+
+    pub fn wash(present: bool) -> Self
+        ensures { λ r. ⌜ r ≡ Numbers.washSegment present ⌝ }
+    {
+        Segment {
+            present,
+            first: WASH_FIRST,
+            count: WASH_COUNT,
+            place: 42,
+        }
+    }
+}
 
 impl Airframe {
-    // The numbers by place, 1 to 48, those of an absent wash included.
-    pub fn numbers(self) -> [f32; 48]
+    // The numbers, segment by segment, those of an absent wash included.
+    pub fn numbers(self) -> [f32; NUMBERS]
         ensures { λ r. ⌜ r ≡ Numbers.numbersOf self ⌝ }
     {
         let m = self.model;
@@ -140,6 +131,8 @@ impl Airframe {
         let c = m.aero;
         let d = m.max_deflection_rad;
         let w = self.wash;
+        let group = self.motors;
+        let layout = group.layout;
         let falloff = m.thrust_falloff;
         let lost = falloff_number(falloff);
         [
@@ -177,13 +170,13 @@ impl Airframe {
             d.y,
             d.z,
             m.servo_time_constant_s,
-            m.max_thrust_n,
-            m.thrust_exponent,
+            layout.max_thrust_n,
+            layout.thrust_exponent,
             lost,
             m.thrust_line_below_cg_m,
-            m.motor_time_constant_s,
-            self.moment_arm_m,
-            self.yaw_torque_per_thrust_m,
+            group.time_constant_s,
+            layout.moment_arm_m,
+            layout.yaw_torque_per_thrust_m,
             w.disc_area_m2,
             w.surface_fraction,
             w.roll_fraction,
@@ -194,25 +187,60 @@ impl Airframe {
         ]
     }
 
-    // The lowest place whose number is out of range: 1 to 48 by the tables, 50 for a motor torque, 51 for a surface weight; 0
-    // where the airframe is accepted.
+    // The lowest place whose number is out of range, 0 where the airframe is accepted. Its rows' factors are not in it: whether they
+    // all fit is handed in.
+    pub fn lowest_place(self, rows_fit: bool) -> u32
+        ensures { λ r. ⌜ r ≡ Acceptance.lowestPlace «rows_fit» self ⌝ }
+    {
+        let m = self.model;
+        let falloff = m.thrust_falloff;
+        let group = self.motors;
+        let numbers = self.numbers();
+        let torques = group.torque_per_thrust_m;
+        let weights = self.weights;
+        first_refused(
+            numbers,
+            falloff,
+            self.wash_present,
+            rows_fit,
+            torques,
+            weights,
+        )
+    }
+
+    // The same of an airframe that is not of a block: it has no rows.
     pub fn refused_place(self) -> u32
         ensures { λ r. ⌜ r ≡ Acceptance.refusedPlace self ⌝ }
     {
-        let m = self.model;
-        let numbers = self.numbers();
-        let falloff = m.thrust_falloff;
-        let torques = self.torque_per_thrust_m;
-        let weights = self.weights;
-        let first = first_outside(
-            numbers,
-            low_limits(falloff),
-            tested_places(self.wash_present),
-        );
-        let torque = vectors_outside(torques, 100.0, 50);
-        let weight = vectors_outside(weights, 101.0, 51);
-        float::or_else(first, float::or_else(torque, weight))
+        self.lowest_place(true)
     }
+}
+
+// The lowest place out of range of an airframe's parts, in the order of their places.
+pub fn first_refused(
+    numbers: [f32; NUMBERS],
+    falloff: ThrustFalloff,
+    wash_present: bool,
+    rows_fit: bool,
+    torques: [Vec3; 8],
+    weights: [Vec3; 8],
+) -> u32
+    ensures { λ r. ⌜ r ≡ Acceptance.firstRefused numbers falloff «wash_present» «rows_fit» torques weights ⌝ }
+{
+    let limits = limits_for(falloff);
+    let base = segment_outside(numbers, limits, Segment::base());
+    let wash = segment_outside(numbers, limits, Segment::wash(wash_present));
+    let rows = row_factors_outside(rows_fit);
+    let torque = vectors_outside(torques, 100.0, 50);
+    let weight = vectors_outside(weights, 101.0, 51);
+    let others = ordered::or_else(rows, ordered::or_else(torque, weight));
+    ordered::or_else(base, ordered::or_else(wash, others))
+}
+
+fn row_factors_outside(rows_fit: bool) -> u32
+    ensures { λ r. ⌜ r ≡ Acceptance.rowFactorsOutside «rows_fit» ⌝ }
+{
+    if rows_fit { 0 } else { 49 }
 }
 
 // The number of either kind of falloff.
@@ -225,57 +253,74 @@ fn falloff_number(falloff: ThrustFalloff) -> f32
     }
 }
 
-// The least numbers by place: a PitchSpeed's is 0.1.
-pub fn low_limits(falloff: ThrustFalloff) -> [f32; 48]
-    ensures { λ r. ⌜ r ≡ Acceptance.lowLimits falloff ⌝ }
+// The limits by place: a PitchSpeed's least number is 0.1.
+pub fn limits_for(falloff: ThrustFalloff) -> [Limits; NUMBERS]
+    ensures { λ r. ⌜ r ≡ Acceptance.limitsFor falloff ⌝ }
 {
-    let mut low = LOW;
+    let mut limits = LIMITS;
     match falloff {
-        ThrustFalloff::Linear(_) => low,
+        ThrustFalloff::Linear(_) => limits,
         ThrustFalloff::PitchSpeed(_) => {
-            low[36] = 0.1;
-            low
+            limits[36] = Limits(0.1, 10000.0);
+            limits
         }
     }
 }
 
-// How many places are tested: the wash's 7 only where it is present.
-pub fn tested_places(wash_present: bool) -> usize
-    ensures { λ r. ⌜ r ≡ Acceptance.testedPlaces «wash_present» ⌝ ∗ ⌜ r ≤ 48 ⌝ }
+// Whether `count` numbers from the index `first` on lie within their limits: all are looked at, with no way out between them.
+fn numbers_inside(
+    numbers: [f32; NUMBERS],
+    limits: [Limits; NUMBERS],
+    first: usize,
+    count: usize,
+) -> bool
+    requires { ⌜ first + count ≤ Numbers.numbersCount ⌝ }
+    ensures { λ r. ⌜ r ≡ allPass (Acceptance.insideFrom limits numbers first) count ⌝ }
 {
-    if wash_present { 48 } else { 41 }
-}
-
-// Whether the first `count` numbers lie within their limits: all are looked at, with no way out between them.
-fn places_inside(numbers: [f32; 48], low: [f32; 48], count: usize) -> bool
-    requires { ⌜ count ≤ 48 ⌝ }
-    ensures { λ r. ⌜ r ≡ allPass (Acceptance.placeInside low numbers) count ⌝ }
-{
-    let high = HIGH;
     let mut ok = true;
     let mut i = 0usize;
     while i < count {
-        ok = float::both(ok, float::inside(numbers[i], low[i], high[i]));
+        let limit = limits[first + i];
+        ok = ordered::both(ok, float::inside(numbers[first + i], limit.0, limit.1));
         i += 1;
     }
     ok
 }
 
-// The first of `count` numbers outside its limits, counted from 1; 0 for none.
-pub fn first_outside(numbers: [f32; 48], low: [f32; 48], count: usize) -> u32
-    requires { ⌜ count ≤ 48 ⌝ }
-    ensures { λ r. ⌜ r ≡ Acceptance.firstOutside low numbers count ⌝ ∗ ⌜ r ≤ 48 ⌝ }
+// The first of them outside its limits, counted from 1; 0 for none.
+fn first_outside(
+    numbers: [f32; NUMBERS],
+    limits: [Limits; NUMBERS],
+    first: usize,
+    count: usize,
+) -> u32
+    requires { ⌜ first + count ≤ Numbers.numbersCount ⌝ }
+    ensures { λ r. ⌜ r ≡ firstFail (Acceptance.insideFrom limits numbers first) 0 count ⌝ ∗ ⌜ r ≤ Numbers.numbersCount ⌝ }
 {
-    if places_inside(numbers, low, count) {
+    if numbers_inside(numbers, limits, first, count) {
         return 0;
     }
-    let high = HIGH;
     let mut i = 0usize;
     while i < count {
-        if !float::inside(numbers[i], low[i], high[i]) {
+        let limit = limits[first + i];
+        if !float::inside(numbers[first + i], limit.0, limit.1) {
             return (i + 1) as u32;
         }
         i += 1;
+    }
+    0
+}
+
+// The lowest place of a segment whose number is outside its limits; 0 for none, and where the segment is absent.
+fn segment_outside(numbers: [f32; NUMBERS], limits: [Limits; NUMBERS], s: Segment) -> u32
+    requires { ⌜ s .first + s .count ≤ Numbers.numbersCount ⌝ ∗ ⌜ 1 ≤ s .place ⌝ ∗ ⌜ s .place ≤ 1000 ⌝ }
+    ensures { λ r. ⌜ r ≡ Acceptance.segmentOutside limits numbers s ⌝ }
+{
+    if s.present {
+        return ordered::after(
+            s.place - 1,
+            first_outside(numbers, limits, s.first, s.count),
+        );
     }
     0
 }
@@ -287,7 +332,7 @@ fn vectors_inside(vectors: [Vec3; 8], limit: f32) -> bool
     let mut ok = true;
     let mut i = 0usize;
     while i < 8 {
-        ok = float::both(ok, vectors[i].is_inside(limit));
+        ok = ordered::both(ok, vectors[i].is_inside(limit));
         i += 1;
     }
     ok
@@ -318,17 +363,19 @@ impl Airframe {
             pitch_moment: 0.0,
             stall_pitch_moment: 0.0,
         };
-        let used = [false; 8];
-        let torque_per_thrust_m = [Vec3::zeros(); 8];
+        let layout = MotorLayout {
+            moment_arm_m: 0.0,
+            yaw_torque_per_thrust_m: 0.0,
+            max_thrust_n: 0.0,
+            thrust_exponent: 0.0,
+        };
+        let motors = MotorGroup::undriven(layout, 0.0);
         let weights = [Vec3::zeros(); 8];
         Airframe {
             model,
-            moment_arm_m: 0.0,
-            yaw_torque_per_thrust_m: 0.0,
             wash_present: false,
             wash,
-            used,
-            torque_per_thrust_m,
+            motors,
             weights,
         }
     }
@@ -374,11 +421,8 @@ fn zero_model() -> FixedWingModel
         aero,
         max_deflection_rad,
         servo_time_constant_s: 0.0,
-        max_thrust_n: 0.0,
-        thrust_exponent: 0.0,
         thrust_falloff,
         thrust_line_below_cg_m: 0.0,
-        motor_time_constant_s: 0.0,
     }
 }
 
@@ -387,24 +431,12 @@ impl Airframe {
     pub fn reflected(mut self) -> Self
         ensures { λ r. ⌜ r ≡ Reflection.reflectAirframe self ⌝ }
     {
-        let torques = self.torque_per_thrust_m;
+        let motors = self.motors;
         let weights = self.weights;
-        let reflected_torques = reflected_axes(torques);
-        let reflected_weights = reflected_axes(weights);
-        self.torque_per_thrust_m = reflected_torques;
+        let reflected_motors = motors.reflected();
+        let reflected_weights = mixers::reflected_axes(weights);
+        self.motors = reflected_motors;
         self.weights = reflected_weights;
         self
     }
-}
-
-fn reflected_axes(axes: [Vec3; 8]) -> [Vec3; 8]
-    ensures { λ r. ⌜ r ≡ map reflectAxis axes ⌝ }
-{
-    let mut out = axes;
-    let mut i = 0usize;
-    while i < 8 {
-        out[i] = out[i].reflected_axis();
-        i += 1;
-    }
-    out
 }

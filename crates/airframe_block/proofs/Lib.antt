@@ -2,3 +2,4 @@
 pub mod Small
 pub mod Order
 pub mod Reading
+pub mod Segments

@@ -8,15 +8,15 @@ use mathlib.Core.Bool.{Bool, cond, false, not, true}
 use mathlib.Core.List.{List}
 use mathlib.Core.Path.{_≡_, refl}
 use native.Mathlib.Omega.{arith}
-use Rattle.airframe.specs.Acceptance.{refusedPlace}
+use Rattle.airframe.proofs.Parts.{rows-apart}
+use Rattle.airframe.specs.Acceptance.{lowestPlace, refusedPlace}
 use Rattle.airframe.specs.Numbers.{zeroAirframe, zeroWash}
 use Rattle.airframe.specs.declared.Airframe.{Airframe}
 use Rattle.answers.specs.declared.Answer.{Answer}
 use Rattle.answers.specs.declared.Answer.the-variants.{Done, NumberOutOfRange, ReservedBit, TooManyRows, WrongFalloff, WrongLength, WrongVersion}
 use Rattle.float.specs.Bytes.{byteAt}
 use Rattle.mixers.specs.declared.Rows.{Rows}
-use Rattle.airframe_block.specs.Block.{acceptedAirframe, airframeBy, badRow, bytesOf, headerOf, lowestPlace, numberCount, numberFrom, numbersFrom, placedAirframe, readAirframeOf, readBody, readBy, readRows, refusedAirframe, reservedRow, rowsAt, rowsFrom, testedAirframe, washOf}
-use Rattle.mixers.specs.Slots.{listFrom, listOf}
+use Rattle.airframe_block.specs.Block.{acceptedAirframe, airframeBy, badRow, bytesOf, headerOf, numbersFrom, placedAirframe, putNumbers, putSegment, putSegments, readAirframeOf, readBody, readBy, readRows, refusedAirframe, reservedRow, rowsAt, rowsFrom, segmentsOf, testedAirframe, washFrom}
 use Rattle.airframe_block.specs.declared.AirframeRead.{AirframeRead}
 use Rattle.airframe_block.specs.declared.Header.{Header}
 
@@ -28,23 +28,6 @@ pub data Outcome : AirframeRead → Type 0 where
 either : (t : Bool) (x y : AirframeRead) → Outcome x → Outcome y → Outcome (cond t x y)
 either true x y a b = a
 either false x y a b = b
-
--- where no place is named, none is refused
-no-place : (p b : ℕ) → lowestPlace p b ≡ 0 → p ≡ 0
-unfolding lowestPlace
-no-place p b e = by-bad (eqb b 0) (eqb p 0) refl e
-  where
-    by-bad : (t u : Bool) → eqb p 0 ≡ u → cond t p (cond u 49 (cond (ltb p 49) p 49)) ≡ 0 → p ≡ 0
-    by-bad true u q e = e
-    by-bad false true q e = eqb-true p 0 q
-    by-bad false false q e = by-size (ltb p 49) e
-      where
-        by-size : (v : Bool) → cond v p 49 ≡ 0 → p ≡ 0
-        by-size true e = e
-        by-size false e = absurd (none e)
-          where
-            none : _≡_ {A = ℕ} 49 0 → ⊥
-            none e = omega arith
 
 no-reply : (p : ℕ) → NumberOutOfRange p ≡ Done → ⊥
 no-reply p q = let z : _≡_ {A = ℕ} 0 1 = cc in omega arith
@@ -59,7 +42,7 @@ tested-outcome a p h = go (eqb p 0) refl
 
 placed-outcome : (a : Airframe) (rows : Rows) → Outcome (placedAirframe a rows)
 unfolding placedAirframe
-placed-outcome a rows = tested-outcome a (lowestPlace (refusedPlace a) (badRow rows)) (no-place (refusedPlace a) (badRow rows))
+placed-outcome a rows = tested-outcome a (lowestPlace (eqb (badRow rows) 0) a) (rows-apart a (eqb (badRow rows) 0))
 
 not-length : WrongLength ≡ Done → ⊥
 not-length q = let z : _≡_ {A = ℕ} 0 1 = cc in omega arith
@@ -79,7 +62,7 @@ not-rows q = let z : _≡_ {A = ℕ} 0 1 = cc in omega arith
 -- the tests from each on
 rows-outcome : (s : List ℕ) (h : Header) (rows : Rows) → Outcome (readRows s h rows)
 unfolding readRows
-rows-outcome s h rows = placed-outcome (airframeBy (numbersFrom s (numberCount h)) h rows) rows
+rows-outcome s h rows = placed-outcome (airframeBy (numbersFrom s h) h rows) rows
 
 body-outcome : (s : List ℕ) (h : Header) → Outcome (readBody s h)
 unfolding readBody
@@ -117,6 +100,6 @@ pub refused-is-zero : (s : List ℕ) → (readAirframeOf s .answer ≡ Done → 
 refused-is-zero s e = refused-of (readAirframeOf s) (read-outcome s) e
 
 -- "absent wash is all zeros" (01, module 5)
-pub absent-wash : (s : List ℕ) (h : Header) → h .wash ≡ 0 → washOf (numbersFrom s (numberCount h)) ≡ zeroWash
-unfolding washOf numbersFrom numberCount listOf listFrom numberFrom zeroWash
+pub absent-wash : (s : List ℕ) (h : Header) → h .wash ≡ false → washFrom (numbersFrom s h) ≡ zeroWash
+unfolding washFrom numbersFrom segmentsOf putSegments putSegment putNumbers zeroWash
 absent-wash s h e = simp e

@@ -1,15 +1,18 @@
--- The airframe block (01, "Blocks", "Airframe"): what its bits and bytes say, and what reading it gives. A block's bytes are a list of numbers below 256. Definitions only.
+-- The airframe block (01, "Blocks", "Airframe"): what its bits and bytes say, and what reading it gives. A block's bytes are a
+-- list of numbers below 256. Definitions only.
 use Prim.Native.Nat.{_%_, _*_, _+_, _-_, _/_, suc, zero, ℕ}
 use lib.Dec.{eqb, ltb}
 use lib.Ieee.{Float, eq}
-use lib.ListN.{getD, length}
+use lib.ListN.{getD, length, replicate, set}
 use mathlib.Core.Bool.{Bool, cond, false, not, true}
 use mathlib.Core.List.{List, [], _∷_}
-use Rattle.airframe.specs.Acceptance.{refusedPlace}
-use Rattle.airframe.specs.Numbers.{zeroAirframe}
+use Rattle.airframe.specs.Acceptance.{lowestPlace}
+use Rattle.airframe.specs.Numbers.{baseSegment, numbersCount, washSegment, zeroAirframe}
 use Rattle.airframe.specs.declared.Airframe.{Airframe}
+use Rattle.airframe.specs.declared.Segment.{Segment}
 use Rattle.answers.specs.declared.Answer.{Answer}
-use Rattle.answers.specs.declared.Answer.the-variants.{Done, NumberOutOfRange, ReservedBit, TooManyRows, WrongFalloff, WrongLength, WrongVersion}
+use Rattle.answers.specs.declared.Answer.the-variants.{Done, NumberOutOfRange, ReservedBit}
+use Rattle.answers.specs.declared.Answer.the-variants.{TooManyRows, WrongFalloff, WrongLength, WrongVersion}
 use Rattle.fixed_wing.specs.declared.AeroCoefficients.{AeroCoefficients}
 use Rattle.fixed_wing.specs.declared.FixedWingModel.{FixedWingModel}
 use Rattle.fixed_wing.specs.declared.ThrustFalloff.{ThrustFalloff}
@@ -17,48 +20,82 @@ use Rattle.fixed_wing.specs.declared.ThrustFalloff.the-variants.{Linear, PitchS
 use Rattle.float.specs.Bytes.{byteAt}
 use Rattle.float.specs.Interval.{inside}
 use Rattle.float.specs.Notation.{nought, rounded, sizeOf}
-use Rattle.float.specs.Ordered.{firstFail}
-use Rattle.mixers.specs.Rows.{liveOf, noRow}
-use Rattle.mixers.specs.Slots.{at, listOf}
+use Rattle.ordered.specs.Ordered.{firstFail}
+use Rattle.mixers.specs.Rows.{liveOf, mostRows, noRow}
+use Rattle.mixers.specs.Slots.{at}
 use Rattle.mixers.specs.declared.MixRow.{MixRow}
 use Rattle.mixers.specs.declared.Rows.{Rows}
 use Rattle.mixers.specs.declared.Slot.{Slot}
 use Rattle.mixers.specs.declared.Slot.the-variants.{Motor, Servo}
-use Rattle.motors.specs.Motor.{motorsOf}
+use Rattle.motors.specs.Motor.{groupOf}
 use Rattle.motors.specs.declared.MotorLayout.{MotorLayout}
-use Rattle.motors.specs.declared.Motors.{Motors}
-use Rattle.state_block.specs.Layout.{floatAt}
+use Rattle.state_block.specs.Layout.{floatAt, numberBytes}
 use Rattle.surfaces.specs.Surface.{surfacesOf}
 use Rattle.tailsitter_model.specs.declared.PropWash.{PropWash}
 use Rattle.vector.specs.Vector.{vec}
-use Rattle.vector.specs.declared.Vec3.{Vec3}
 use Rattle.airframe_block.specs.declared.AirframeRead.{AirframeRead}
 use Rattle.airframe_block.specs.declared.Header.{Header}
 
--- ---- the header: version 4 bits, falloff kind 2, wash present 1, reserved 4, row count 5, packed most significant first into the bytes a and b
-unfoldable pub headerOf : ℕ → ℕ → Header
-headerOf a b = record { version = a / 16; kind = a / 4 % 4; wash = a / 2 % 2; reserved = a % 2 * 8 + b / 32; rows = b % 32 }
+-- ---- lengths in bytes
+abbrev pub headerBytes : ℕ
+headerBytes = 2
 
--- where the rows begin: after the header's 2 bytes, 41 numbers, and the wash's 7 if present
+abbrev pub rowBytes : ℕ
+rowBytes = 13
+
+-- the longest block that a header can announce: the five bits of its row count go up to 31
+abbrev pub mostBytes : ℕ
+mostBytes = headerBytes + numberBytes * numbersCount + rowBytes * 31
+
+-- ---- the header: version 4 bits, falloff kind 2, wash present 1, reserved 4, row count 5, packed most significant first into
+-- the bytes a and b
+unfoldable pub headerOf : ℕ → ℕ → Header
+headerOf a b = record {
+  version = a / 16;
+  kind = a / 4 % 4;
+  wash = eqb (a / 2 % 2) 1;
+  reserved = a % 2 * 8 + b / 32;
+  rows = b % 32;
+}
+
+-- ---- after it the segments of the numbers, one after the other: an absent one has no bytes
+unfoldable pub segmentsOf : Header → List Segment
+segmentsOf h = baseSegment ∷ washSegment (h .wash) ∷ []
+
+unfoldable pub segmentBytes : Segment → ℕ
+segmentBytes x = cond (x .present) (numberBytes * x .count) 0
+
+-- where the segments that begin at byte i end
+unfoldable pub segmentsEnd : ℕ → List Segment → ℕ
+segmentsEnd i [] = i
+segmentsEnd i (x ∷ more) = segmentsEnd (i + segmentBytes x) more
+
+-- after them the rows
 unfoldable pub rowsAt : Header → ℕ
-rowsAt h = 166 + 28 * h .wash
+rowsAt h = segmentsEnd headerBytes (segmentsOf h)
 
 -- "166 bytes + 28 for wash + 13 a row"
 unfoldable pub bytesOf : Header → ℕ
-bytesOf h = rowsAt h + 13 * h .rows
+bytesOf h = rowsAt h + rowBytes * h .rows
 
--- ---- the numbers: 41, and 7 more if a wash is present; the numbers of an absent wash are 0
-unfoldable pub numberCount : Header → ℕ
-numberCount h = 41 + 7 * h .wash
+-- ---- the numbers: 0, but for those of the segments that are there
 
--- the number at index k, which is that of place k + 1
-unfoldable pub numberFrom : List ℕ → ℕ → ℕ → Float
-numberFrom s count k = cond (ltb k count) (floatAt s (2 + 4 * k)) nought
+-- the first n numbers of a segment, those from byte i of the block on to the indexes from j on
+unfoldable pub putNumbers : List ℕ → ℕ → List Float → ℕ → ℕ → List Float
+putNumbers s i xs j zero = xs
+putNumbers s i xs j (suc n) = set (putNumbers s i xs j n) (j + n) (floatAt s (i + numberBytes * n))
 
-unfoldable pub numbersFrom : List ℕ → ℕ → List Float
-numbersFrom s count = listOf (numberFrom s count) 48
+unfoldable pub putSegment : List ℕ → ℕ → List Float → Segment → List Float
+putSegment s i xs x = cond (x .present) (putNumbers s i xs (x .first) (x .count)) xs
 
--- the number of a place, counted from 1
+unfoldable pub putSegments : List ℕ → ℕ → List Float → List Segment → List Float
+putSegments s i xs [] = xs
+putSegments s i xs (x ∷ more) = putSegments s (i + segmentBytes x) (putSegment s i xs x) more
+
+unfoldable pub numbersFrom : List ℕ → Header → List Float
+numbersFrom s h = putSegments s headerBytes (replicate numbersCount nought) (segmentsOf h)
+
+-- the number of a place up to 48, counted from 1
 abbrev pub place : List Float → ℕ → Float
 place xs p = at xs (p - 1)
 
@@ -96,7 +133,7 @@ coefficientsOf xs = record {
   «c_yaw_rudder» = place xs 30;
 }
 
--- 1 mass, 2 to 4 inertia, 5 area, 6 span, 7 chord, 31 to 33 deflections, 34 servo constant, 35 thrust, 36 exponent, 37 falloff, 38 thrust line, 39 motor constant
+-- 1 mass, 2 to 4 inertia, 5 area, 6 span, 7 chord, 31 to 33 deflections, 34 servo constant, 37 falloff, 38 thrust line
 unfoldable pub modelOf : List Float → ℕ → FixedWingModel
 modelOf xs kind = record {
   «mass_kg» = place xs 1;
@@ -107,16 +144,13 @@ modelOf xs kind = record {
   aero = coefficientsOf xs;
   «max_deflection_rad» = vec (place xs 31) (place xs 32) (place xs 33);
   «servo_time_constant_s» = place xs 34;
-  «max_thrust_n» = place xs 35;
-  «thrust_exponent» = place xs 36;
   «thrust_falloff» = falloffOf kind (place xs 37);
   «thrust_line_below_cg_m» = place xs 38;
-  «motor_time_constant_s» = place xs 39;
 }
 
 -- 42 disc, 43 surface and 44 roll fraction, 45 pitch and 46 stall pitch moment, 47 sink loss, 48 damping
-unfoldable pub washOf : List Float → PropWash
-washOf xs = record {
+unfoldable pub washFrom : List Float → PropWash
+washFrom xs = record {
   «disc_area_m2» = place xs 42;
   «surface_fraction» = place xs 43;
   «roll_fraction» = place xs 44;
@@ -126,9 +160,18 @@ washOf xs = record {
   «stall_pitch_moment» = place xs 46;
 }
 
--- 40 the arm, 41 the yaw torque, with 35 and 36
+-- 35 thrust, 36 exponent, 40 the arm, 41 the yaw torque
 unfoldable pub layoutOf : List Float → MotorLayout
-layoutOf xs = record { «moment_arm_m» = place xs 40; «yaw_torque_per_thrust_m» = place xs 41; «max_thrust_n» = place xs 35; «thrust_exponent» = place xs 36 }
+layoutOf xs = record {
+  «moment_arm_m» = place xs 40;
+  «yaw_torque_per_thrust_m» = place xs 41;
+  «max_thrust_n» = place xs 35;
+  «thrust_exponent» = place xs 36;
+}
+
+-- 39 motor constant
+abbrev pub motorConstant : List Float → Float
+motorConstant xs = place xs 39
 
 -- ---- rows of 13 bytes: kind 1 bit (0 motor, 1 servo), slot 3, reserved 4, roll, pitch, yaw
 
@@ -139,19 +182,21 @@ slotOf b = cond (eqb (b / 128) 0) (Motor (b / 16 % 8)) (Servo (b / 16 % 8))
 unfoldable pub rowFrom : List ℕ → ℕ → MixRow
 rowFrom s i = record { slot = slotOf (byteAt s i); roll = floatAt s (i + 1); pitch = floatAt s (i + 5); yaw = floatAt s (i + 9) }
 
--- what fills the array of 16 past the last row
+-- the first n of the rows whose bytes begin at `start`, put into an array one after the other
+unfoldable pub putRows : List ℕ → ℕ → List MixRow → ℕ → List MixRow
+putRows s start rows zero = rows
+putRows s start rows (suc n) = set (putRows s start rows n) n (rowFrom s (start + rowBytes * n))
+
+-- an array of empty rows to put them into
 abbrev pub emptyRow : MixRow
 emptyRow = record { slot = Motor 0; roll = nought; pitch = nought; yaw = nought }
 
-unfoldable pub rowOr : List ℕ → ℕ → ℕ → ℕ → MixRow
-rowOr s start count k = cond (ltb k count) (rowFrom s (start + 13 * k)) emptyRow
-
 unfoldable pub rowsFrom : List ℕ → ℕ → ℕ → Rows
-rowsFrom s start count = record { rows = listOf (rowOr s start count) 16; count = count }
+rowsFrom s start count = record { rows = putRows s start (replicate mostRows emptyRow) count; count = count }
 
 -- a row's four reserved bits are clear
 unfoldable pub rowClear : List ℕ → ℕ → ℕ → Bool
-rowClear s start k = eqb (byteAt s (start + 13 * k) % 16) 0
+rowClear s start k = eqb (byteAt s (start + rowBytes * k) % 16) 0
 
 -- the first row, counted from 1, with a reserved bit set; 0 for none
 unfoldable pub reservedRow : List ℕ → ℕ → ℕ → ℕ
@@ -171,25 +216,15 @@ rowFitsAt rows k = rowFits (getD rows k noRow)
 unfoldable pub badRow : Rows → ℕ
 badRow rows = firstFail (rowFitsAt (rows .rows)) 0 (liveOf rows)
 
--- "6 by lowest place": p is the lowest place out of range of the airframe that is made of the block, 49 left out, or 0; b tells a bad row factor, by not being 0
-unfoldable pub lowestPlace : ℕ → ℕ → ℕ
-lowestPlace p b = cond (eqb b 0) p (cond (eqb p 0) 49 (cond (ltb p 49) p 49))
-
 -- ---- the airframe: torques and used motors by module 2, weights by module 3
-unfoldable pub airframeOf : List Float → Header → Motors → List Vec3 → Airframe
-airframeOf xs h motors weights = record {
-  model = modelOf xs (h .kind);
-  «moment_arm_m» = place xs 40;
-  «yaw_torque_per_thrust_m» = place xs 41;
-  «wash_present» = eqb (h .wash) 1;
-  wash = washOf xs;
-  used = motors .used;
-  «torque_per_thrust_m» = motors .«torque_per_thrust_m»;
-  weights = weights;
-}
-
 unfoldable pub airframeBy : List Float → Header → Rows → Airframe
-airframeBy xs h rows = airframeOf xs h (motorsOf rows (layoutOf xs)) (surfacesOf rows .weights)
+airframeBy xs h rows = record {
+  model = modelOf xs (h .kind);
+  «wash_present» = h .wash;
+  wash = washFrom xs;
+  motors = groupOf rows (layoutOf xs) (motorConstant xs);
+  weights = surfacesOf rows .weights;
+}
 
 -- ---- reading (01, "What the bench replies", the order of an airframe)
 
@@ -205,14 +240,17 @@ unfoldable pub testedAirframe : Airframe → ℕ → AirframeRead
 testedAirframe a p = cond (eqb p 0) (acceptedAirframe a) (refusedAirframe (NumberOutOfRange p))
 
 unfoldable pub placedAirframe : Airframe → Rows → AirframeRead
-placedAirframe a rows = testedAirframe a (lowestPlace (refusedPlace a) (badRow rows))
+placedAirframe a rows = testedAirframe a (lowestPlace (eqb (badRow rows) 0) a)
 
 unfoldable pub readRows : List ℕ → Header → Rows → AirframeRead
-readRows s h rows = placedAirframe (airframeBy (numbersFrom s (numberCount h)) h rows) rows
+readRows s h rows = placedAirframe (airframeBy (numbersFrom s h) h rows) rows
 
 -- a reserved bit in the rows (4), then the numbers
 unfoldable pub readBody : List ℕ → Header → AirframeRead
-readBody s h = cond (eqb (reservedRow s (rowsAt h) (h .rows)) 0) (readRows s h (rowsFrom s (rowsAt h) (h .rows))) (refusedAirframe ReservedBit)
+readBody s h =
+    cond (eqb (reservedRow s (rowsAt h) (h .rows)) 0)
+    (readRows s h (rowsFrom s (rowsAt h) (h .rows)))
+    (refusedAirframe ReservedBit)
 
 -- version (2), falloff kind (3), reserved header bits (4), row count (5), total length (1)
 unfoldable pub readBy : List ℕ → Header → AirframeRead
@@ -220,9 +258,9 @@ readBy s h =
     cond (not (eqb (h .version) 1)) (refusedAirframe WrongVersion)
     (cond (ltb 1 (h .kind)) (refusedAirframe WrongFalloff)
     (cond (not (eqb (h .reserved) 0)) (refusedAirframe ReservedBit)
-    (cond (ltb 16 (h .rows)) (refusedAirframe TooManyRows)
+    (cond (ltb mostRows (h .rows)) (refusedAirframe TooManyRows)
     (cond (not (eqb (length s) (bytesOf h))) (refusedAirframe WrongLength) (readBody s h)))))
 
 -- under 2 bytes (1), then by the header
 unfoldable pub readAirframeOf : List ℕ → AirframeRead
-readAirframeOf s = cond (ltb (length s) 2) (refusedAirframe WrongLength) (readBy s (headerOf (byteAt s 0) (byteAt s 1)))
+readAirframeOf s = cond (ltb (length s) headerBytes) (refusedAirframe WrongLength) (readBy s (headerOf (byteAt s 0) (byteAt s 1)))

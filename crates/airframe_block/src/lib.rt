@@ -1,12 +1,18 @@
 // The airframe block (01, "Blocks"): its header's bits, its numbers by place, its rows, and what reading it gives.
 ghost use mathlib.Core.Path.{_≡_};
 ghost use Prim.Native.Nat.{_+_, _*_, _≤_};
+ghost use Rattle.airframe.specs.Numbers as Numbers;
+ghost use Rattle.mixers.specs.Rows.{mostRows};
+ghost use Rattle.state_block.specs.Layout.{numberBytes};
 ghost use Rattle.airframe_block.specs.Block as Block;
 use airframe::Airframe;
+use airframe::NUMBERS;
+use airframe::Segment;
 use answers::Answer;
 use fixed_wing::AeroCoefficients;
 use fixed_wing::FixedWingModel;
 use fixed_wing::ThrustFalloff;
+use mixers::MOST_ROWS;
 use mixers::MixRow;
 use mixers::Rows;
 use mixers::Slot;
@@ -20,12 +26,20 @@ pub struct AirframeRead {
     pub airframe: Airframe,
 }
 
+// How many bytes the header and a row have.
+pub const HEADER_BYTES: usize = 2;
+
+pub const ROW_BYTES: usize = 13;
+
+// The longest block that a header can announce: its five bits of the row count go up to 31.
+pub const MOST_BYTES: usize = HEADER_BYTES + state_block::NUMBER_BYTES * NUMBERS + ROW_BYTES * 31;
+
 // What the block's two first bytes say.
 struct Header {
     version: u8,
     kind: u8,
-    // 1 where a wash is present, else 0.
-    wash: usize,
+    // Whether a wash is present.
+    wash: bool,
     // The four reserved bits.
     reserved: u8,
     rows: usize,
@@ -41,56 +55,88 @@ fn wide(b: u8) -> usize
 fn header_of(a: u8, b: u8) -> Header
     ensures { λ r. ⌜ r ≡ Block.headerOf a b ⌝ }
 {
-    let wash = wide(a / 2 % 2);
     let rows = wide(b % 32);
     Header {
         version: a / 16,
         kind: a / 4 % 4,
-        wash,
+        wash: a / 2 % 2 == 1,
         reserved: a % 2 * 8 + b / 32,
         rows,
     }
 }
 
+// How many bytes a segment of the numbers has.
+fn segment_bytes(x: Segment) -> usize
+    requires { ⌜ x .count ≤ Numbers.numbersCount ⌝ }
+    ensures { λ r. ⌜ r ≡ Block.segmentBytes x ⌝ ∗ ⌜ r ≤ numberBytes * x .count ⌝ }
+{
+    if x.present {
+        return state_block::NUMBER_BYTES * x.count;
+    }
+    0
+}
+
 impl Header {
     // Where the rows begin.
     fn rows_at(self) -> usize
-        requires { ⌜ self .wash ≤ 1 ⌝ }
-        ensures { λ r. ⌜ r ≡ Block.rowsAt self ⌝ ∗ ⌜ r ≤ 194 ⌝ }
+        ensures { λ r. ⌜ r ≡ Block.rowsAt self ⌝ ∗ ⌜ r ≤ Block.headerBytes + numberBytes * Numbers.numbersCount ⌝ }
     {
-        166 + 28 * self.wash
+        let base = segment_bytes(Segment::base());
+        let wash = segment_bytes(Segment::wash(self.wash));
+        HEADER_BYTES + base + wash
     }
 
     // How many bytes the block has.
     fn bytes(self) -> usize
-        requires { ⌜ self .wash ≤ 1 ⌝ ∗ ⌜ self .rows ≤ 31 ⌝ }
+        requires { ⌜ self .rows ≤ 31 ⌝ }
         ensures { λ r. ⌜ r ≡ Block.bytesOf self ⌝ }
     {
         let start = self.rows_at();
-        start + 13 * self.rows
-    }
-
-    // How many numbers it has.
-    fn number_count(self) -> usize
-        requires { ⌜ self .wash ≤ 1 ⌝ }
-        ensures { λ r. ⌜ r ≡ Block.numberCount self ⌝ ∗ ⌜ r ≤ 48 ⌝ }
-    {
-        41 + 7 * self.wash
+        start + ROW_BYTES * self.rows
     }
 }
 
-// The first `count` numbers of the block; the others are 0.
-fn read_numbers(s: &[u8], count: usize) -> [f32; 48]
-    requires { ⌜ count ≤ 48 ⌝ ∗ do ⌜ 2 + 4 * count ≤ (← ⟦s.len()⟧) ⌝ }
-    ensures { λ r. ⌜ r ≡ Block.numbersFrom (now (s .entry)) count ⌝ }
+// The numbers of a segment that is there, from byte `at` on, into xs.
+fn read_segment(s: &[u8], at: usize, xs: [f32; NUMBERS], x: Segment) -> [f32; NUMBERS]
+    requires { ⌜ x .first + x .count ≤ Numbers.numbersCount ⌝ ∗ do ⌜ at + Block.segmentBytes x ≤ (← ⟦s.len()⟧) ⌝ }
+    ensures { λ r. ⌜ r ≡ Block.putSegment (now (s .entry)) at xs x ⌝ }
 {
-    let mut xs = [0.0; 48];
-    let mut k = 0usize;
-    while k < count {
-        xs[k] = float::read(s, 2 + 4 * k);
-        k += 1;
+    if x.present {
+        return read_present(s, at, xs, x.first, x.count);
     }
     xs
+}
+
+fn read_present(
+    s: &[u8],
+    at: usize,
+    xs: [f32; NUMBERS],
+    first: usize,
+    count: usize,
+) -> [f32; NUMBERS]
+    requires { ⌜ first + count ≤ Numbers.numbersCount ⌝ ∗ do ⌜ at + numberBytes * count ≤ (← ⟦s.len()⟧) ⌝ }
+    ensures { λ r. ⌜ r ≡ Block.putNumbers (now (s .entry)) at xs first count ⌝ }
+{
+    let mut out = xs;
+    let mut k = 0usize;
+    while k < count {
+        out[first + k] = float::read(s, at + state_block::NUMBER_BYTES * k);
+        k += 1;
+    }
+    out
+}
+
+// The numbers of the block, segment by segment; those of an absent segment are 0.
+fn read_numbers(s: &[u8], h: Header) -> [f32; NUMBERS]
+    requires { do ⌜ Block.rowsAt h ≤ (← ⟦s.len()⟧) ⌝ }
+    ensures { λ r. ⌜ r ≡ Block.numbersFrom (now (s .entry)) h ⌝ }
+{
+    let base = Segment::base();
+    let wash = Segment::wash(h.wash);
+    let none = [0.0; NUMBERS];
+    let wash_at = HEADER_BYTES + segment_bytes(base);
+    let numbers = read_segment(s, HEADER_BYTES, none, base);
+    read_segment(s, wash_at, numbers, wash)
 }
 
 // The falloff of its kind and its number.
@@ -103,7 +149,7 @@ pub fn falloff_of(kind: u8, x: f32) -> ThrustFalloff
     ThrustFalloff::PitchSpeed(x)
 }
 
-fn coefficients_of(xs: [f32; 48]) -> AeroCoefficients
+fn coefficients_of(xs: [f32; NUMBERS]) -> AeroCoefficients
     ensures { λ r. ⌜ r ≡ Block.coefficientsOf xs ⌝ }
 {
     AeroCoefficients {
@@ -134,7 +180,7 @@ fn coefficients_of(xs: [f32; 48]) -> AeroCoefficients
 }
 
 // The model of the numbers by place and the falloff's kind.
-pub fn model_of(xs: [f32; 48], kind: u8) -> FixedWingModel
+pub fn model_of(xs: [f32; NUMBERS], kind: u8) -> FixedWingModel
     ensures { λ r. ⌜ r ≡ Block.modelOf xs kind ⌝ }
 {
     let aero = coefficients_of(xs);
@@ -150,17 +196,14 @@ pub fn model_of(xs: [f32; 48], kind: u8) -> FixedWingModel
         aero,
         max_deflection_rad,
         servo_time_constant_s: xs[33],
-        max_thrust_n: xs[34],
-        thrust_exponent: xs[35],
         thrust_falloff,
         thrust_line_below_cg_m: xs[37],
-        motor_time_constant_s: xs[38],
     }
 }
 
 // The wash of the numbers by place.
-pub fn wash_of(xs: [f32; 48]) -> PropWash
-    ensures { λ r. ⌜ r ≡ Block.washOf xs ⌝ }
+pub fn wash_from(xs: [f32; NUMBERS]) -> PropWash
+    ensures { λ r. ⌜ r ≡ Block.washFrom xs ⌝ }
 {
     PropWash {
         disc_area_m2: xs[41],
@@ -173,7 +216,8 @@ pub fn wash_of(xs: [f32; 48]) -> PropWash
     }
 }
 
-fn layout_of(xs: [f32; 48]) -> MotorLayout
+// The layout of the motors along body x.
+pub fn layout_of(xs: [f32; NUMBERS]) -> MotorLayout
     ensures { λ r. ⌜ r ≡ Block.layoutOf xs ⌝ }
 {
     MotorLayout {
@@ -196,7 +240,7 @@ fn slot_of(b: u8) -> Slot
 
 // The row whose 13 bytes stand at i.
 fn read_row(s: &[u8], i: usize) -> MixRow
-    requires { do ⌜ i + 13 ≤ (← ⟦s.len()⟧) ⌝ }
+    requires { do ⌜ i + Block.rowBytes ≤ (← ⟦s.len()⟧) ⌝ }
     ensures { λ r. ⌜ r ≡ Block.rowFrom (now (s .entry)) i ⌝ }
 {
     let slot = slot_of(s[i]);
@@ -213,7 +257,7 @@ fn read_row(s: &[u8], i: usize) -> MixRow
 
 // The `count` rows that stand at `start`.
 fn read_rows(s: &[u8], start: usize, count: usize) -> Rows
-    requires { ⌜ count ≤ 16 ⌝ ∗ do ⌜ start + 13 * count ≤ (← ⟦s.len()⟧) ⌝ }
+    requires { ⌜ count ≤ mostRows ⌝ ∗ do ⌜ start + Block.rowBytes * count ≤ (← ⟦s.len()⟧) ⌝ }
     ensures { λ r. ⌜ r ≡ Block.rowsFrom (now (s .entry)) start count ⌝ }
 {
     let empty = MixRow {
@@ -222,10 +266,10 @@ fn read_rows(s: &[u8], start: usize, count: usize) -> Rows
         pitch: 0.0,
         yaw: 0.0,
     };
-    let mut rows = [empty; 16];
+    let mut rows = [empty; MOST_ROWS];
     let mut k = 0usize;
     while k < count {
-        rows[k] = read_row(s, start + 13 * k);
+        rows[k] = read_row(s, start + ROW_BYTES * k);
         k += 1;
     }
     Rows { rows, count }
@@ -233,12 +277,12 @@ fn read_rows(s: &[u8], start: usize, count: usize) -> Rows
 
 // The first of the `count` rows at `start` with a reserved bit set, counted from 1; 0 for none.
 fn reserved_row(s: &[u8], start: usize, count: usize) -> usize
-    requires { ⌜ count ≤ 16 ⌝ ∗ do ⌜ start + 13 * count ≤ (← ⟦s.len()⟧) ⌝ }
+    requires { ⌜ count ≤ mostRows ⌝ ∗ do ⌜ start + Block.rowBytes * count ≤ (← ⟦s.len()⟧) ⌝ }
     ensures { λ r. ⌜ r ≡ Block.reservedRow (now (s .entry)) start count ⌝ }
 {
     let mut k = 0usize;
     while k < count {
-        if s[start + 13 * k] % 16 != 0 {
+        if s[start + ROW_BYTES * k] % 16 != 0 {
             return k + 1;
         }
         k += 1;
@@ -284,42 +328,21 @@ fn bad_row(rows: Rows) -> usize
     0
 }
 
-// The lowest place out of range, p being the lowest of the others than 49, and 49 that of a bad row factor.
-fn lowest_place(p: u32, bad: usize) -> u32
-    ensures { λ r. ⌜ r ≡ Block.lowestPlace p bad ⌝ }
-{
-    if bad == 0 {
-        return p;
-    }
-    if p == 0 {
-        return 49;
-    }
-    if p < 49 {
-        return p;
-    }
-    49
-}
-
 // The airframe of the numbers, the header and the rows.
-fn airframe_by(xs: [f32; 48], h: Header, rows: Rows) -> Airframe
+fn airframe_by(xs: [f32; NUMBERS], h: Header, rows: Rows) -> Airframe
     ensures { λ r. ⌜ r ≡ Block.airframeBy xs h rows ⌝ }
 {
-    let mix = lent_rows::mixed(rows, layout_of(xs));
+    let mix = lent_rows::mixed(rows, layout_of(xs), xs[38]);
     let motors = mix.motors;
     let surfaces = mix.surfaces();
     let model = model_of(xs, h.kind);
-    let wash = wash_of(xs);
-    let used = motors.used;
-    let torque_per_thrust_m = motors.torque_per_thrust_m;
+    let wash = wash_from(xs);
     let weights = surfaces.weights;
     Airframe {
         model,
-        moment_arm_m: xs[39],
-        yaw_torque_per_thrust_m: xs[40],
-        wash_present: h.wash == 1,
+        wash_present: h.wash,
         wash,
-        used,
-        torque_per_thrust_m,
+        motors,
         weights,
     }
 }
@@ -336,7 +359,7 @@ fn refused(answer: Answer) -> AirframeRead
 fn placed(airframe: Airframe, rows: Rows) -> AirframeRead
     ensures { λ r. ⌜ r ≡ Block.placedAirframe airframe rows ⌝ }
 {
-    let p = lowest_place(airframe.refused_place(), bad_row(rows));
+    let p = airframe.lowest_place(bad_row(rows) == 0);
     if p != 0 {
         return refused(Answer::NumberOutOfRange(p));
     }
@@ -348,7 +371,7 @@ fn placed(airframe: Airframe, rows: Rows) -> AirframeRead
 
 // The block of header `h`, whose length is right: reserved bits of the rows, then the numbers.
 fn read_body(s: &[u8], h: Header) -> AirframeRead
-    requires { ⌜ h .wash ≤ 1 ⌝ ∗ ⌜ h .rows ≤ 16 ⌝ ∗ do ⌜ Block.bytesOf h ≤ (← ⟦s.len()⟧) ⌝ }
+    requires { ⌜ h .rows ≤ mostRows ⌝ ∗ do ⌜ Block.bytesOf h ≤ (← ⟦s.len()⟧) ⌝ }
     ensures { λ r. ⌜ r ≡ Block.readBody (now (s .entry)) h ⌝ }
 {
     let start = h.rows_at();
@@ -357,7 +380,7 @@ fn read_body(s: &[u8], h: Header) -> AirframeRead
         return refused(Answer::ReservedBit);
     }
     let rows = read_rows(s, start, count);
-    let xs = read_numbers(s, h.number_count());
+    let xs = read_numbers(s, h);
     placed(airframe_by(xs, h, rows), rows)
 }
 
@@ -366,7 +389,7 @@ pub fn read_airframe(s: &[u8]) -> AirframeRead
     ensures { λ r. ⌜ r ≡ Block.readAirframeOf (now (s .entry)) ⌝ }
 {
     let n = s.len();
-    if n < 2 {
+    if n < HEADER_BYTES {
         return refused(Answer::WrongLength);
     }
     let h = header_of(s[0], s[1]);
@@ -379,7 +402,7 @@ pub fn read_airframe(s: &[u8]) -> AirframeRead
     if h.reserved != 0 {
         return refused(Answer::ReservedBit);
     }
-    if h.rows > 16 {
+    if h.rows > MOST_ROWS {
         return refused(Answer::TooManyRows);
     }
     if n != h.bytes() {
@@ -391,6 +414,7 @@ pub fn read_airframe(s: &[u8]) -> AirframeRead
 // How many bytes the airframe block has whose first two bytes are a and b.
 pub fn airframe_bytes(a: u8, b: u8) -> usize
     ensures { λ r. ⌜ r ≡ Block.bytesOf (Block.headerOf a b) ⌝ }
+    ensures { λ r. ⌜ Block.headerBytes ≤ r ⌝ ∗ ⌜ r ≤ Block.mostBytes ⌝ }
 {
     let h = header_of(a, b);
     h.bytes()

@@ -1,7 +1,8 @@
 -- What the bench replies: the number and the place of each answer (01's table). Definitions only.
 use Prim.Native.Nat.{ℕ}
 use Rattle.answers.specs.declared.Answer.{Answer}
-use Rattle.answers.specs.declared.Answer.the-variants.{Departure, Done, NumberOutOfRange, ReservedBit, StateOutside, StepOutside, TooManyRows, WrongFalloff, WrongLength, WrongVersion}
+use Rattle.answers.specs.declared.Answer.the-variants.{Departure, Done, NumberOutOfRange, ReservedBit, StateOutside, StepOutside}
+use Rattle.answers.specs.declared.Answer.the-variants.{TooManyRows, WrongFalloff, WrongLength, WrongVersion}
 
 abbrev pub numberOf : Answer → ℕ
 numberOf Done = 0

@@ -1,4 +1,4 @@
--- What the lengths of rows that fit are. Assumes nothing.
+-- What the lengths of arrays that fit are: each test that was passed tells its own. Assumes nothing.
 use Prim.Native.Nat.{suc, ℕ}
 use lib.Ieee.{Float}
 use lib.ListN.{length, set}
@@ -6,31 +6,34 @@ use mathlib.Core.List.{List, [], _∷_}
 use native.Mathlib.Omega.{arith}
 use borrow.Author.Tests.{eqb-true}
 use lib.Dec.{eqb}
-use mathlib.Core.Bool.{Bool, cond, false, true}
+use mathlib.Core.Bool.{Bool, _&&_, false, true}
 use mathlib.Core.Path.{_≡_, refl}
-use Rattle.bench_c.specs.Library.{pairFits, rowsFit}
+use Rattle.arrays.specs.Flight.{stateNumbers, tickNumbers}
+use Rattle.bench_c.specs.Library.{pairLengths, reportNumbersCount, tickLengths}
 
 -- both sides of a test that is passed
-pub first : (t u : Bool) → cond t u false ≡ true → t ≡ true
+first : (t u : Bool) → (t && u) ≡ true → t ≡ true
 first true u e = refl
 first false u e = e
 
-pub second : (t u : Bool) → cond t u false ≡ true → u ≡ true
+second : (t u : Bool) → (t && u) ≡ true → u ≡ true
 second true u e = e
 second false true e = refl
 second false false e = e
 
--- the three rows of a tick
-pub rows-fit : (s t r : ℕ) → rowsFit s t r ≡ true → (s ≡ 29) × ((t ≡ 20) × (r ≡ 3))
-unfolding rowsFit
-rows-fit s t r e = (eqb-true s 29 (first (eqb s 29) _ e), (eqb-true t 20 (first (eqb t 20) _ (second (eqb s 29) _ e)), eqb-true r 3 (second (eqb t 20) _ (second (eqb s 29) _ e))))
+-- the three arrays of a tick
+pub arrays-fit : (s t r : ℕ) → tickLengths s t r ≡ true → (s ≡ stateNumbers) × ((t ≡ tickNumbers) × (r ≡ reportNumbersCount))
+unfolding tickLengths
+arrays-fit s t r e =
+    let f = first (eqb s stateNumbers && eqb t tickNumbers) (eqb r reportNumbersCount) e in
+    (eqb-true s stateNumbers (first (eqb s stateNumbers) _ f), (eqb-true t tickNumbers (second (eqb s stateNumbers) _ f), eqb-true r reportNumbersCount (second (eqb s stateNumbers && eqb t tickNumbers) _ e)))
 
--- the two rows of a pair
-pub pair-fits : (s r : ℕ) → pairFits s r ≡ true → (s ≡ 29) × (r ≡ 29)
-unfolding pairFits
-pair-fits s r e = (eqb-true s 29 (first (eqb s 29) _ e), eqb-true r 29 (second (eqb s 29) _ e))
+-- the two arrays of a pair
+pub pair-fits : (s r : ℕ) → pairLengths s r ≡ true → (s ≡ stateNumbers) × (r ≡ stateNumbers)
+unfolding pairLengths
+pair-fits s r e = (eqb-true s stateNumbers (first (eqb s stateNumbers) _ e), eqb-true r stateNumbers (second (eqb s stateNumbers) _ e))
 
--- a row of 3 with each number set
+-- an array of 3 with each number set
 pub set-three : (xs : List Float) (a b c : Float) → length xs ≡ 3 → set (set (set xs 0 a) 1 b) 2 c ≡ a ∷ b ∷ c ∷ []
 set-three [] a b c e = absurd (zero-not e)
   where

@@ -1,26 +1,24 @@
--- The library's calls over bytes and rows of numbers (numbers/specs): each is one of the bench's calls, after the lengths of the rows. A row of another length gets 1, and nothing is written. Definitions only.
+-- What each call of the library gives back (include/bench.h), on bytes and on arrays of numbers (arrays/specs): one of the bench's
+-- calls, after the lengths of the arrays. An array of another length gets 1, and nothing is written. Definitions only.
 use Prim.Native.Nat.{_*_, _+_, ℕ}
 use lib.Dec.{eqb}
 use lib.Ieee.{Float}
 use lib.ListN.{length}
-use mathlib.Core.Bool.{Bool, cond, false}
+use mathlib.Core.Bool.{Bool, _&&_, cond}
 use mathlib.Core.List.{List, [], _∷_}
 use Rattle.airframe.specs.Reflection.{reflectAirframe}
-use Rattle.airframe.specs.declared.Airframe.{Airframe}
 use Rattle.airframe_block.specs.Block.{readAirframeOf}
 use Rattle.airframe_block.specs.declared.AirframeRead.{AirframeRead}
 use Rattle.answers.specs.Answers.{numberOf, placeOf}
 use Rattle.answers.specs.declared.Answer.{Answer}
-use Rattle.answers.specs.declared.Answer.the-variants.{WrongLength}
 use Rattle.flight.specs.Reflection.{reflectFlight}
 use Rattle.flight.specs.declared.Flight.{Flight}
 use Rattle.flight.specs.declared.Tick.{Tick}
-use Rattle.numbers.specs.Airframe.{airframeNumbers, airframeNumbersCount, airframeOf}
-use Rattle.numbers.specs.Flight.{flightNumbers, flightOf, stateNumbers, tickNumbers, tickOf as tickFrom}
+use Rattle.arrays.specs.Airframe.{airframeNumbers, airframeNumbersCount, airframeIn}
+use Rattle.arrays.specs.Flight.{flightNumbers, flightIn, stateNumbers, tickNumbers, tickIn}
 use Rattle.run.specs.Run.{ended, ranOf, reflectTrace}
 use Rattle.run.specs.declared.Ran.{Ran}
 use Rattle.state_block.specs.Layout.{readStateOf, writeAnswer, writtenState}
-use Rattle.state_block.specs.declared.StateRead.{StateRead}
 use Rattle.wing.specs.Tick.{refusedOf, tickOf}
 use Rattle.wing.specs.declared.Report.{Report}
 use Rattle.wing.specs.declared.Ticked.{Ticked}
@@ -29,6 +27,7 @@ use Rattle.wing.specs.declared.Ticked.{Ticked}
 unfoldable pub replyOf : Answer → ℕ
 replyOf x = numberOf x + 16 * placeOf x
 
+-- the reply where an array is of another length
 abbrev pub wrongLength : ℕ
 wrongLength = 1
 
@@ -40,68 +39,95 @@ holds xs n = eqb (length xs) n
 
 -- ---- reading and writing
 
--- the row that a read airframe is prepared in
-unfoldable pub preparedRow : List Float → AirframeRead → List Float
-preparedRow row x = cond (holds row airframeNumbersCount) (airframeNumbers (x .airframe)) row
+-- what a call gives back that fills an array
+pub record Filled : Type 0 where
+  pub reply : ℕ
+  pub numbers : List Float
 
-unfoldable pub preparedReply : List Float → AirframeRead → ℕ
-preparedReply row x = cond (holds row airframeNumbersCount) (replyOf (x .answer)) wrongLength
+-- bench_prepare: an airframe block into an array; a refused block gives the zero airframe
+unfoldable pub prepare : List ℕ → List Float → Filled
+prepare block airframe =
+    let x = readAirframeOf block in
+    cond (holds airframe airframeNumbersCount)
+    (record { reply = replyOf (x .answer); numbers = airframeNumbers (x .airframe) })
+    (record { reply = wrongLength; numbers = airframe })
 
--- the row that a state is read into
-unfoldable pub readRow : List Float → StateRead → List Float
-readRow row x = cond (holds row stateNumbers) (flightNumbers (x .flight)) row
+-- bench_read_state: a state block into an array; a refused block gives the zero state
+unfoldable pub readState : List ℕ → List Float → Filled
+readState block state =
+    let x = readStateOf block in
+    cond (holds state stateNumbers)
+    (record { reply = replyOf (x .answer); numbers = flightNumbers (x .flight) })
+    (record { reply = wrongLength; numbers = state })
 
-unfoldable pub readReply : List Float → StateRead → ℕ
-readReply row x = cond (holds row stateNumbers) (replyOf (x .answer)) wrongLength
+-- what a call gives back that writes a block
+pub record Written : Type 0 where
+  pub reply : ℕ
+  pub block : List ℕ
 
--- the bytes that a state's row is written into
-unfoldable pub writtenBytes : List Float → List ℕ → List ℕ
-writtenBytes row bytes = cond (holds row stateNumbers) (writtenState bytes (flightOf row)) bytes
-
-unfoldable pub writtenReply : List Float → List ℕ → ℕ
-writtenReply row bytes = cond (holds row stateNumbers) (replyOf (writeAnswer bytes)) wrongLength
+-- bench_write_state: a state's array into a block
+unfoldable pub writeState : List Float → List ℕ → Written
+writeState state block =
+    cond (holds state stateNumbers)
+    (record { reply = replyOf (writeAnswer block); block = writtenState block (flightIn state) })
+    (record { reply = wrongLength; block = block })
 
 -- ---- a tick
 
--- a block that is refused refuses the tick, with its own answer
-unfoldable pub tickedBy : AirframeRead → Flight → Tick → Ticked
-tickedBy x f t = cond (isDone (x .answer)) (tickOf (x .airframe) f t) (refusedOf (x .answer) f)
+-- what a tick gives back
+pub record TickOutcome : Type 0 where
+  pub reply : ℕ
+  pub state : List Float
+  pub report : List Float
 
--- the lengths of the rows of a tick
-unfoldable pub rowsFit : ℕ → ℕ → ℕ → Bool
-rowsFit state tick report = cond (eqb state stateNumbers) (cond (eqb tick tickNumbers) (eqb report 3) false) false
+abbrev pub reportNumbersCount : ℕ
+reportNumbersCount = 3
 
 unfoldable pub reportNumbers : Report → List Float
 reportNumbers r = r .«alpha_rad» ∷ r .«beta_rad» ∷ r .«thrust_n» ∷ []
 
--- the state's row afterwards: as found where the tick is refused
-unfoldable pub keptRow : List Float → Ticked → List Float
-keptRow row k = cond (isDone (k .report .answer)) (flightNumbers (k .flight)) row
+-- the state's array afterwards: as found where the tick is refused
+unfoldable pub stateAfterTick : List Float → Ticked → List Float
+stateAfterTick state k = cond (isDone (k .report .answer)) (flightNumbers (k .flight)) state
 
-abbrev pub fit : List Float → List Float → List Float → Bool
-fit state tick report = rowsFit (length state) (length tick) (length report)
+-- a tick that was tested, and one whose arrays are of another length
+abbrev pub tested : List Float → Ticked → TickOutcome
+tested state k = record {
+  reply = replyOf (k .report .answer);
+  state = stateAfterTick state k;
+  report = reportNumbers (k .report);
+}
 
-abbrev pub fitPrepared : List Float → List Float → List Float → List Float → Bool
-fitPrepared airframe state tick report = cond (holds airframe airframeNumbersCount) (fit state tick report) false
+abbrev pub untested : List Float → List Float → TickOutcome
+untested state report = record { reply = wrongLength; state = state; report = report }
 
--- reply, state and report after a tick, where the rows fit
-unfoldable pub replyAfter : Bool → Ticked → ℕ
-replyAfter fits k = cond fits (replyOf (k .report .answer)) wrongLength
+-- the airframe of a block that is refused refuses the tick, with the block's own answer
+unfoldable pub tickedBy : AirframeRead → Flight → Tick → Ticked
+tickedBy x f t = cond (isDone (x .answer)) (tickOf (x .airframe) f t) (refusedOf (x .answer) f)
 
-unfoldable pub stateAfter : Bool → List Float → Ticked → List Float
-stateAfter fits row k = cond fits (keptRow row k) row
+-- whether the lengths are those of a state, a tick and a report
+unfoldable pub tickLengths : ℕ → ℕ → ℕ → Bool
+tickLengths state t report = eqb state stateNumbers && eqb t tickNumbers && eqb report reportNumbersCount
 
-unfoldable pub reportAfter : Bool → List Float → Ticked → List Float
-reportAfter fits row k = cond fits (reportNumbers (k .report)) row
+-- bench_tick: with the airframe as its block
+unfoldable pub tick : List ℕ → List Float → List Float → List Float → TickOutcome
+tick block state t report =
+    cond (tickLengths (length state) (length t) (length report))
+    (tested state (tickedBy (readAirframeOf block) (flightIn state) (tickIn t)))
+    (untested state report)
 
--- the tick of an airframe's block, or of its row
-unfoldable pub blockTick : List ℕ → List Float → List Float → Ticked
-blockTick block state tick = tickedBy (readAirframeOf block) (flightOf state) (tickFrom tick)
-
-unfoldable pub rowTick : List Float → List Float → List Float → Ticked
-rowTick airframe state tick = tickOf (airframeOf airframe) (flightOf state) (tickFrom tick)
+-- bench_tick_prepared: with the airframe as its array
+unfoldable pub tickPrepared : List Float → List Float → List Float → List Float → TickOutcome
+tickPrepared airframe state t report =
+    cond (holds airframe airframeNumbersCount && tickLengths (length state) (length t) (length report))
+    (tested state (tickOf (airframeIn airframe) (flightIn state) (tickIn t)))
+    (untested state report)
 
 -- ---- a run, and the mirrored pair
+
+-- the state's array afterwards: as found where the run is refused
+unfoldable pub stateAfterRun : List Float → Ran → List Float
+stateAfterRun state r = cond (isDone (r .answer)) (flightNumbers (r .flight)) state
 
 -- a block that is refused leaves the state, with its own answer and no accepted tick
 unfoldable pub ranBy : AirframeRead → Flight → List ℕ → Ran
@@ -109,30 +135,48 @@ ranBy x f trace = cond (isDone (x .answer)) (ranOf (x .airframe) f trace) (ended
 
 -- the run's reflection: reflected airframe, state and ticks
 unfoldable pub reflectedBy : AirframeRead → Flight → List ℕ → Ran
-reflectedBy x f trace = cond (isDone (x .answer)) (ranOf (reflectAirframe (x .airframe)) (reflectFlight f) (reflectTrace trace)) (ended (x .answer) (reflectFlight f) 0)
+reflectedBy x f trace =
+    cond (isDone (x .answer))
+    (ranOf (reflectAirframe (x .airframe)) (reflectFlight f) (reflectTrace trace))
+    (ended (x .answer) (reflectFlight f) 0)
 
-unfoldable pub blockRun : List ℕ → List Float → List ℕ → Ran
-blockRun block state trace = ranBy (readAirframeOf block) (flightOf state) trace
+-- what a run gives back
+pub record RunOutcome : Type 0 where
+  pub reply : ℕ
+  pub state : List Float
+  pub accepted : ℕ
 
-unfoldable pub blockReflected : List ℕ → List Float → List ℕ → Ran
-blockReflected block state trace = reflectedBy (readAirframeOf block) (flightOf state) trace
+-- bench_run
+unfoldable pub run : List ℕ → List Float → List ℕ → RunOutcome
+run block state trace =
+    let r = ranBy (readAirframeOf block) (flightIn state) trace in
+    cond (holds state stateNumbers)
+    (record { reply = replyOf (r .answer); state = stateAfterRun state r; accepted = r .accepted })
+    (record { reply = wrongLength; state = state; accepted = 0 })
 
--- a run's end state in its row: as found where the run is refused
-unfoldable pub endRow : List Float → Ran → List Float
-endRow row r = cond (isDone (r .answer)) (flightNumbers (r .flight)) row
+-- what the pair gives back
+pub record PairOutcome : Type 0 where
+  pub reply : ℕ
+  pub state : List Float
+  pub reflected : List Float
+  pub accepted : ℕ
+  pub acceptedReflected : ℕ
 
-unfoldable pub pairFits : ℕ → ℕ → Bool
-pairFits state reflected = cond (eqb state stateNumbers) (eqb reflected stateNumbers) false
+-- whether the lengths are those of two states
+unfoldable pub pairLengths : ℕ → ℕ → Bool
+pairLengths state reflected = eqb state stateNumbers && eqb reflected stateNumbers
 
-abbrev pub pairFit : List Float → List Float → Bool
-pairFit state reflected = pairFits (length state) (length reflected)
-
--- reply, state and count after a run, where the rows fit
-unfoldable pub runReply : Bool → Ran → ℕ
-runReply fits r = cond fits (replyOf (r .answer)) wrongLength
-
-unfoldable pub runRow : Bool → List Float → Ran → List Float
-runRow fits row r = cond fits (endRow row r) row
-
-unfoldable pub runCount : Bool → Ran → ℕ
-runCount fits r = cond fits (r .accepted) 0
+-- bench_mirrored_pair: r the run, s its reflection
+unfoldable pub mirroredPair : List ℕ → List Float → List Float → List ℕ → PairOutcome
+mirroredPair block state reflected trace =
+    let r = ranBy (readAirframeOf block) (flightIn state) trace in
+    let s = reflectedBy (readAirframeOf block) (flightIn state) trace in
+    cond (pairLengths (length state) (length reflected))
+    (record {
+      reply = replyOf (r .answer);
+      state = stateAfterRun state r;
+      reflected = stateAfterRun reflected s;
+      accepted = r .accepted;
+      acceptedReflected = s .accepted;
+    })
+    (record { reply = wrongLength; state = state; reflected = reflected; accepted = 0; acceptedReflected = 0 })

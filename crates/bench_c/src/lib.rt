@@ -1,17 +1,16 @@
-// The bench for C and Rust to link: reading and writing blocks, a tick, a run over a trace and the mirrored pair, on bytes and rows
-// of numbers; and the elementary functions. include/bench.h says it for callers.
+// The bench for C and Rust to link: reading and writing blocks, a tick, a run over a trace and the mirrored pair, on bytes and
+// arrays of numbers; and the elementary functions. include/bench.h says it for callers.
 ghost use mathlib.Core.Path.{_≡_};
 ghost use lib.Ieee.{binary32};
-ghost use lib.ListN.{length};
 ghost use Prim.Native.Nat.{_≤_};
 ghost use Rattle.airframe_block.specs.Block.{readAirframeOf};
 ghost use Rattle.libm.specs.Atan.{atan2Of, asinOf};
 ghost use Rattle.libm.specs.Exp.{expOf};
 ghost use Rattle.libm.specs.Sqrt.{sqrtOf};
 ghost use Rattle.libm.specs.Trig.{sinOf, cosOf};
-ghost use Rattle.numbers.specs.Airframe.{airframeOf};
+ghost use Rattle.arrays.specs.Airframe.{airframeNumbersCount, airframeIn};
+ghost use Rattle.arrays.specs.Flight.{stateNumbers};
 ghost use Rattle.run.specs.Run as Run;
-ghost use Rattle.state_block.specs.Layout.{readStateOf};
 ghost use Rattle.wing.specs.Tick.{tickOf};
 ghost use Rattle.bench_c.specs.Library as Library;
 use airframe_block::AirframeRead;
@@ -82,58 +81,58 @@ pub extern "C" fn bench_read_airframe(block: &[u8]) -> u64
     reply(answer)
 }
 
-// Reads an airframe block into a row of 106 numbers, for many ticks; a refused block gives the zero airframe's.
+// Reads an airframe block into an array, for many ticks; a refused block gives the zero airframe.
 #[no_mangle]
 pub extern "C" fn bench_prepare(block: &[u8], airframe: &mut [f32]) -> u64
-    ensures { λ r. ⌜ r ≡ Library.preparedReply (now (airframe .entry)) (readAirframeOf (now (block .entry))) ⌝ }
-    ensures { λ _. ⌜ now (airframe .exit) ≡ Library.preparedRow (now (airframe .entry)) (readAirframeOf (now (block .entry))) ⌝ }
+    ensures { λ r. ⌜ (let o = Library.prepare (now (block .entry)) (now (airframe .entry)) in
+        (r ≡ o .reply) × (now (airframe .exit) ≡ o .numbers)) ⌝ }
 {
     let lent = airframe.len();
-    if lent != 106 {
+    if lent != arrays::AIRFRAME_NUMBERS {
         return 1;
     }
     let read = airframe_block::read_airframe(block);
     let answer = read.answer;
-    numbers::put_airframe(airframe, read.airframe);
+    arrays::put_airframe(airframe, read.airframe);
     reply(answer)
 }
 
-// Reads a state block into a row of 29 numbers; a refused block gives the zero state's.
+// Reads a state block into an array; a refused block gives the zero state.
 #[no_mangle]
 pub extern "C" fn bench_read_state(block: &[u8], state: &mut [f32]) -> u64
-    ensures { λ r. ⌜ r ≡ Library.readReply (now (state .entry)) (readStateOf (now (block .entry))) ⌝ }
-    ensures { λ _. ⌜ now (state .exit) ≡ Library.readRow (now (state .entry)) (readStateOf (now (block .entry))) ⌝ }
+    ensures { λ r. ⌜ (let o = Library.readState (now (block .entry)) (now (state .entry)) in
+        (r ≡ o .reply) × (now (state .exit) ≡ o .numbers)) ⌝ }
 {
     let lent = state.len();
-    if lent != 29 {
+    if lent != arrays::STATE_NUMBERS {
         return 1;
     }
     let read = state_block::read_state(block);
     let answer = read.answer;
-    numbers::put_flight(state, read.flight);
+    arrays::put_flight(state, read.flight);
     reply(answer)
 }
 
-// Writes a state's row into a block of 116 bytes.
+// Writes a state's array into a block of 116 bytes.
 #[no_mangle]
 pub extern "C" fn bench_write_state(state: &[f32], block: &mut [u8]) -> u64
-    ensures { λ r. ⌜ r ≡ Library.writtenReply (now (state .entry)) (now (block .entry)) ⌝ }
-    ensures { λ _. ⌜ now (block .exit) ≡ Library.writtenBytes (now (state .entry)) (now (block .entry)) ⌝ }
+    ensures { λ r. ⌜ (let o = Library.writeState (now (state .entry)) (now (block .entry)) in
+        (r ≡ o .reply) × (now (block .exit) ≡ o .block)) ⌝ }
 {
-    if state.len() != 29 {
+    if state.len() != arrays::STATE_NUMBERS {
         return 1;
     }
-    let answer = state_block::write_state(block, numbers::flight_of(state));
+    let answer = state_block::write_state(block, arrays::flight_in(state));
     reply(answer)
 }
 
-// Whether a tick's rows have their lengths.
-fn rows_fit(state: usize, tick: usize, report: usize) -> bool
-    ensures { λ r. ⌜ r ≡ Library.rowsFit state tick report ⌝ }
+// Whether a tick's arrays have their lengths.
+fn arrays_fit(state: usize, tick: usize, report: usize) -> bool
+    ensures { λ r. ⌜ r ≡ Library.tickLengths state tick report ⌝ }
 {
-    if state == 29 {
-        if tick == 20 {
-            return report == 3;
+    if state == arrays::STATE_NUMBERS {
+        if tick == arrays::TICK_NUMBERS {
+            return report == arrays::REPORT_NUMBERS;
         }
         return false;
     }
@@ -151,46 +150,45 @@ fn ticked_by(read: AirframeRead, f: Flight, t: Tick) -> Ticked
     wing::refused(answer, f)
 }
 
-// The tick of an airframe in its row, which is tested where it stands.
-fn ticked_row(airframe: &[f32], f: Flight, t: Tick) -> Ticked
-    requires { do ⌜ 106 ≤ (← ⟦airframe.len()⟧) ⌝ }
-    ensures { λ r. ⌜ r ≡ tickOf (airframeOf (now (airframe .entry))) f t ⌝ }
+// The tick of an airframe in its array, which is tested where it stands.
+fn ticked_prepared(airframe: &[f32], f: Flight, t: Tick) -> Ticked
+    requires { do ⌜ airframeNumbersCount ≤ (← ⟦airframe.len()⟧) ⌝ }
+    ensures { λ r. ⌜ r ≡ tickOf (airframeIn (now (airframe .entry))) f t ⌝ }
 {
-    let place = numbers::refused_place(airframe);
+    let place = arrays::refused_place(airframe);
     if place == 0 {
-        return wing::flown(numbers::airframe_of(airframe), f, t);
+        return wing::tick_accepted(arrays::airframe_in(airframe), f, t);
     }
     wing::refused(Answer::NumberOutOfRange(place), f)
 }
 
-// Alpha, beta and thrust into a row of 3.
-fn put_report(row: &mut [f32], r: Report)
-    requires { do ⌜ (← ⟦row.len()⟧) ≡ 3 ⌝ }
-    ensures { λ _. ⌜ now (row .exit) ≡ Library.reportNumbers r ⌝ }
+// Alpha, beta and thrust into their array.
+fn put_report(array: &mut [f32], r: Report)
+    requires { do ⌜ (← ⟦array.len()⟧) ≡ Library.reportNumbersCount ⌝ }
+    ensures { λ _. ⌜ now (array .exit) ≡ Library.reportNumbers r ⌝ }
 {
-    row[0] = r.alpha_rad;
-    row[1] = r.beta_rad;
-    row[2] = r.thrust_n;
+    array[0] = r.alpha_rad;
+    array[1] = r.beta_rad;
+    array[2] = r.thrust_n;
 }
 
-// The state's numbers into its row, which a refused tick leaves as found.
-fn put_kept(row: &mut [f32], done: Ticked)
-    requires { do ⌜ (← ⟦row.len()⟧) ≡ 29 ⌝ }
-    ensures { λ _. ⌜ now (row .exit) ≡ Library.keptRow (now (row .entry)) done ⌝ }
+// The state's numbers into its array, which a refused tick leaves as found.
+fn put_kept(state: &mut [f32], done: Ticked)
+    requires { do ⌜ (← ⟦state.len()⟧) ≡ stateNumbers ⌝ }
+    ensures { λ _. ⌜ now (state .exit) ≡ Library.stateAfterTick (now (state .entry)) done ⌝ }
 {
     let report = done.report;
     let answer = report.answer;
     if answer.number() == 0 {
-        numbers::put_flight(row, done.flight);
+        arrays::put_flight(state, done.flight);
     }
 }
 
-// What a tick gave, into the caller's rows.
+// What a tick gave, into the caller's arrays.
 fn handed_back(done: Ticked, state: &mut [f32], report: &mut [f32]) -> u64
-    requires { do ⌜ (← ⟦state.len()⟧) ≡ 29 ⌝ ∗ do ⌜ (← ⟦report.len()⟧) ≡ 3 ⌝ }
-    ensures { λ r. ⌜ r ≡ Library.replyOf (done .report .answer) ⌝ }
-    ensures { λ _. ⌜ now (state .exit) ≡ Library.keptRow (now (state .entry)) done ⌝ }
-    ensures { λ _. ⌜ now (report .exit) ≡ Library.reportNumbers (done .report) ⌝ }
+    requires { do ⌜ (← ⟦state.len()⟧) ≡ stateNumbers ⌝ ∗ do ⌜ (← ⟦report.len()⟧) ≡ Library.reportNumbersCount ⌝ }
+    ensures { λ r. ⌜ (let o = Library.tested (now (state .entry)) done in
+        (r ≡ o .reply) × (now (state .exit) ≡ o .state) × (now (report .exit) ≡ o .report)) ⌝ }
 {
     let said = done.report;
     let answer = said.answer;
@@ -199,7 +197,7 @@ fn handed_back(done: Ticked, state: &mut [f32], report: &mut [f32]) -> u64
     reply(answer)
 }
 
-// One tick of the state in its row, with the airframe as its block: a refused tick leaves the state, and reports zeros.
+// One tick of the state in its array, with the airframe as its block: a refused tick leaves the state, and reports zeros.
 #[no_mangle]
 pub extern "C" fn bench_tick(
     airframe: &[u8],
@@ -207,20 +205,19 @@ pub extern "C" fn bench_tick(
     tick: &[f32],
     report: &mut [f32],
 ) -> u64
-    ensures { λ r. ⌜ r ≡ Library.replyAfter (Library.fit (now (state .entry)) (now (tick .entry)) (now (report .entry))) (Library.blockTick (now (airframe .entry)) (now (state .entry)) (now (tick .entry))) ⌝ }
-    ensures { λ _. ⌜ now (state .exit) ≡ Library.stateAfter (Library.fit (now (state .entry)) (now (tick .entry)) (now (report .entry))) (now (state .entry)) (Library.blockTick (now (airframe .entry)) (now (state .entry)) (now (tick .entry))) ⌝ }
-    ensures { λ _. ⌜ now (report .exit) ≡ Library.reportAfter (Library.fit (now (state .entry)) (now (tick .entry)) (now (report .entry))) (now (report .entry)) (Library.blockTick (now (airframe .entry)) (now (state .entry)) (now (tick .entry))) ⌝ }
+    ensures { λ r. ⌜ (let o = Library.tick (now (airframe .entry)) (now (state .entry)) (now (tick .entry)) (now (report .entry)) in
+        (r ≡ o .reply) × (now (state .exit) ≡ o .state) × (now (report .exit) ≡ o .report)) ⌝ }
 {
-    if rows_fit(state.len(), tick.len(), report.len()) {
-        let f = numbers::flight_of(state);
-        let t = numbers::tick_of(tick);
+    if arrays_fit(state.len(), tick.len(), report.len()) {
+        let f = arrays::flight_in(state);
+        let t = arrays::tick_in(tick);
         let done = ticked_by(airframe_block::read_airframe(airframe), f, t);
         return handed_back(done, state, report);
     }
     1
 }
 
-// The same with the airframe prepared: its row of 106 numbers, tested at each tick like any other.
+// The same with the airframe prepared: its array of numbers, tested at each tick like any other.
 #[no_mangle]
 pub extern "C" fn bench_tick_prepared(
     airframe: &[f32],
@@ -228,15 +225,14 @@ pub extern "C" fn bench_tick_prepared(
     tick: &[f32],
     report: &mut [f32],
 ) -> u64
-    ensures { λ r. ⌜ r ≡ Library.replyAfter (Library.fitPrepared (now (airframe .entry)) (now (state .entry)) (now (tick .entry)) (now (report .entry))) (Library.rowTick (now (airframe .entry)) (now (state .entry)) (now (tick .entry))) ⌝ }
-    ensures { λ _. ⌜ now (state .exit) ≡ Library.stateAfter (Library.fitPrepared (now (airframe .entry)) (now (state .entry)) (now (tick .entry)) (now (report .entry))) (now (state .entry)) (Library.rowTick (now (airframe .entry)) (now (state .entry)) (now (tick .entry))) ⌝ }
-    ensures { λ _. ⌜ now (report .exit) ≡ Library.reportAfter (Library.fitPrepared (now (airframe .entry)) (now (state .entry)) (now (tick .entry)) (now (report .entry))) (now (report .entry)) (Library.rowTick (now (airframe .entry)) (now (state .entry)) (now (tick .entry))) ⌝ }
+    ensures { λ r. ⌜ (let o = Library.tickPrepared (now (airframe .entry)) (now (state .entry)) (now (tick .entry)) (now (report .entry)) in
+        (r ≡ o .reply) × (now (state .exit) ≡ o .state) × (now (report .exit) ≡ o .report)) ⌝ }
 {
-    if airframe.len() == 106 {
-        if rows_fit(state.len(), tick.len(), report.len()) {
-            let f = numbers::flight_of(state);
-            let t = numbers::tick_of(tick);
-            let done = ticked_row(airframe, f, t);
+    if airframe.len() == arrays::AIRFRAME_NUMBERS {
+        if arrays_fit(state.len(), tick.len(), report.len()) {
+            let f = arrays::flight_in(state);
+            let t = arrays::tick_in(tick);
+            let done = ticked_prepared(airframe, f, t);
             return handed_back(done, state, report);
         }
         return 1;
@@ -279,18 +275,18 @@ fn pair_by(read: AirframeRead, f: Flight, trace: &[u8]) -> Pair
     Pair { first, second }
 }
 
-// A run's end state into its row, which a refused run leaves as found.
-fn put_end(row: &mut [f32], done: Ran)
-    requires { do ⌜ (← ⟦row.len()⟧) ≡ 29 ⌝ }
-    ensures { λ _. ⌜ now (row .exit) ≡ Library.endRow (now (row .entry)) done ⌝ }
+// A run's end state into its array, which a refused run leaves as found.
+fn put_end(state: &mut [f32], done: Ran)
+    requires { do ⌜ (← ⟦state.len()⟧) ≡ stateNumbers ⌝ }
+    ensures { λ _. ⌜ now (state .exit) ≡ Library.stateAfterRun (now (state .entry)) done ⌝ }
 {
     let answer = done.answer;
     if answer.number() == 0 {
-        numbers::put_flight(row, done.flight);
+        arrays::put_flight(state, done.flight);
     }
 }
 
-// Flies the trace from the state in its row, and counts the accepted ticks: a refused run leaves the state and counts none.
+// Flies the trace from the state in its array, and counts the accepted ticks: a refused run leaves the state and counts none.
 #[no_mangle]
 pub extern "C" fn bench_run(
     airframe: &[u8],
@@ -298,13 +294,12 @@ pub extern "C" fn bench_run(
     trace: &[u8],
     accepted: &mut u64,
 ) -> u64
-    ensures { λ r. ⌜ r ≡ Library.runReply (Library.holds (now (state .entry)) 29) (Library.blockRun (now (airframe .entry)) (now (state .entry)) (now (trace .entry))) ⌝ }
-    ensures { λ _. ⌜ now (state .exit) ≡ Library.runRow (Library.holds (now (state .entry)) 29) (now (state .entry)) (Library.blockRun (now (airframe .entry)) (now (state .entry)) (now (trace .entry))) ⌝ }
-    ensures { λ _. ⌜ now (accepted .exit) ≡ Library.runCount (Library.holds (now (state .entry)) 29) (Library.blockRun (now (airframe .entry)) (now (state .entry)) (now (trace .entry))) ⌝ }
+    ensures { λ r. ⌜ (let o = Library.run (now (airframe .entry)) (now (state .entry)) (now (trace .entry)) in
+        (r ≡ o .reply) × (now (state .exit) ≡ o .state) × (now (accepted .exit) ≡ o .accepted)) ⌝ }
 {
     let lent = state.len();
-    if lent == 29 {
-        let f = numbers::flight_of(state);
+    if lent == arrays::STATE_NUMBERS {
+        let f = arrays::flight_in(state);
         let done = ran_by(airframe_block::read_airframe(airframe), f, trace);
         let answer = done.answer;
         put_end(state, done);
@@ -315,18 +310,18 @@ pub extern "C" fn bench_run(
     1
 }
 
-// Whether both rows of a pair hold a state.
+// Whether both arrays of a pair hold a state.
 fn pair_fits(state: usize, reflected: usize) -> bool
-    ensures { λ r. ⌜ r ≡ Library.pairFits state reflected ⌝ }
+    ensures { λ r. ⌜ r ≡ Library.pairLengths state reflected ⌝ }
 {
-    if state == 29 {
-        return reflected == 29;
+    if state == arrays::STATE_NUMBERS {
+        return reflected == arrays::STATE_NUMBERS;
     }
     false
 }
 
-// Flies the trace from the state in its row and its reflection from the reflected state, and counts the accepted ticks of both. The
-// end states go into both rows; a refused run leaves them.
+// Flies the trace from the state in its array and its reflection from the reflected state, and counts the accepted ticks of both.
+// The end states go into both arrays; a refused run leaves them.
 #[no_mangle]
 pub extern "C" fn bench_mirrored_pair(
     airframe: &[u8],
@@ -336,14 +331,13 @@ pub extern "C" fn bench_mirrored_pair(
     accepted: &mut u64,
     accepted_reflected: &mut u64,
 ) -> u64
-    ensures { λ r. ⌜ r ≡ Library.runReply (Library.pairFit (now (state .entry)) (now (reflected .entry))) (Library.blockRun (now (airframe .entry)) (now (state .entry)) (now (trace .entry))) ⌝ }
-    ensures { λ _. ⌜ now (state .exit) ≡ Library.runRow (Library.pairFit (now (state .entry)) (now (reflected .entry))) (now (state .entry)) (Library.blockRun (now (airframe .entry)) (now (state .entry)) (now (trace .entry))) ⌝ }
-    ensures { λ _. ⌜ now (reflected .exit) ≡ Library.runRow (Library.pairFit (now (state .entry)) (now (reflected .entry))) (now (reflected .entry)) (Library.blockReflected (now (airframe .entry)) (now (state .entry)) (now (trace .entry))) ⌝ }
-    ensures { λ _. ⌜ now (accepted .exit) ≡ Library.runCount (Library.pairFit (now (state .entry)) (now (reflected .entry))) (Library.blockRun (now (airframe .entry)) (now (state .entry)) (now (trace .entry))) ⌝ }
-    ensures { λ _. ⌜ now («accepted_reflected» .exit) ≡ Library.runCount (Library.pairFit (now (state .entry)) (now (reflected .entry))) (Library.blockReflected (now (airframe .entry)) (now (state .entry)) (now (trace .entry))) ⌝ }
+    ensures { λ r. ⌜ (let o =
+        Library.mirroredPair (now (airframe .entry)) (now (state .entry)) (now (reflected .entry)) (now (trace .entry)) in
+        (r ≡ o .reply) × (now (state .exit) ≡ o .state) × (now (reflected .exit) ≡ o .reflected)
+        × (now (accepted .exit) ≡ o .accepted) × (now («accepted_reflected» .exit) ≡ o .acceptedReflected)) ⌝ }
 {
     if pair_fits(state.len(), reflected.len()) {
-        let f = numbers::flight_of(state);
+        let f = arrays::flight_in(state);
         let pair = pair_by(airframe_block::read_airframe(airframe), f, trace);
         let first = pair.first;
         let second = pair.second;

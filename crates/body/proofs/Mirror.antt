@@ -4,13 +4,13 @@ use lib.IntN.{pos}
 use mathlib.Core.Bool.{false, true}
 use Rattle.float.proofs.Mirror.{mirror, r-same, r-zero}
 use Rattle.float.specs.Notation.{nought}
-use Rattle.vector.proofs.Mirror.{add-mirror, component-div-mirror, cross-axis-mirror, from-scaled-axis-mirror, renormalized-mirror, scale-mirror, sub-mirror, times-mirror, unscale-mirror, vec-mirror}
+use Rattle.vector.proofs.Mirror.{add-mirror, component-div-mirror, cross-axis-mirror, from-scaled-axis-mirror, reflect-axis, reflect-quat, reflect-vec, renormalized-mirror, scale-mirror, sub-mirror, times-mirror, unscale-mirror, vec-mirror}
 use Rattle.vector.specs.Reflection.{QuatRel, VecRel}
 use Rattle.vector.specs.Vector.{componentMul}
 use Rattle.vector.specs.declared.Quaternion.{Quaternion}
 use Rattle.vector.specs.declared.Vec3.{Vec3}
 use Rattle.body.specs.Motion.{accelerationOf, airVelocity, gravity, netTorque, nextAttitude, nextPosition, nextRates, nextVelocity, stepOf}
-use Rattle.body.specs.Reflection.{BodyRel, LoadsRel}
+use Rattle.body.specs.Reflection.{BodyRel, LoadsRel, reflectBody}
 use Rattle.body.specs.declared.Body.{Body}
 use Rattle.body.specs.declared.Loads.{Loads}
 use Rattle.body.specs.declared.MassProperties.{MassProperties}
@@ -54,3 +54,13 @@ step-mirror m h g k =
 pub air-velocity-mirror : {b b' : Body} {wind wind' : Vec3} → BodyRel b b' → VecRel false wind wind' → VecRel false (airVelocity b wind) (airVelocity b' wind')
 unfolding airVelocity
 air-velocity-mirror g k = sub-mirror (g .velocity) k
+
+-- the reflection by flipping sign bits is one
+pub reflect-body : (b : Body) → BodyRel b (reflectBody b)
+unfolding reflectBody
+reflect-body b = record {
+  position = reflect-vec (b .«position_ned_m»);
+  velocity = reflect-vec (b .«velocity_ned_mps»);
+  attitude = reflect-quat (b .attitude);
+  rates = reflect-axis (b .«angular_velocity_radps»);
+}

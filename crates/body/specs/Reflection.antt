@@ -1,9 +1,20 @@
--- A body and its loads seen in a mirror of left and right (01, "Reflection negates"): velocity and position east, i, k, p, r turn their sign. Definitions only.
+-- A body and its loads seen in a mirror of left and right (01, "Reflection negates"): position and velocity east, i, k, p, r turn
+-- their sign. Definitions only.
 use mathlib.Core.Bool.{false, true}
-use Rattle.vector.specs.Reflection.{QuatRel, VecRel}
+use Rattle.vector.specs.Reflection.{QuatRel, VecRel, reflectAxis, reflectQuat, reflectVec}
 use Rattle.body.specs.declared.Body.{Body}
 use Rattle.body.specs.declared.Loads.{Loads}
 
+-- by flipping sign bits
+unfoldable pub reflectBody : Body → Body
+reflectBody b = record {
+  «position_ned_m» = reflectVec (b .«position_ned_m»);
+  «velocity_ned_mps» = reflectVec (b .«velocity_ned_mps»);
+  attitude = reflectQuat (b .attitude);
+  «angular_velocity_radps» = reflectAxis (b .«angular_velocity_radps»);
+}
+
+-- number for number, two zeros counting as equal
 pub record BodyRel (b b' : Body) : Type 0 where
   pub position : VecRel false (b .«position_ned_m») (b' .«position_ned_m»)
   pub velocity : VecRel false (b .«velocity_ned_mps») (b' .«velocity_ned_mps»)

@@ -1,6 +1,7 @@
 // Rigid-body motion in the NED world frame and FRD body frame.
 ghost use mathlib.Core.Path.{_≡_};
 ghost use Rattle.body.specs.Motion as Motion;
+ghost use Rattle.body.specs.Reflection as Reflection;
 use vector::Quaternion;
 use vector::Vec3;
 
@@ -65,6 +66,22 @@ impl Body {
     {
         let velocity = self.velocity_ned_mps;
         velocity.sub(wind_ned_mps)
+    }
+
+    // The reflection of left and right.
+    pub fn reflected(self) -> Self
+        ensures { λ r. ⌜ r ≡ Reflection.reflectBody self ⌝ }
+    {
+        let position = self.position_ned_m;
+        let velocity = self.velocity_ned_mps;
+        let attitude = self.attitude;
+        let rates = self.angular_velocity_radps;
+        Body {
+            position_ned_m: position.reflected(),
+            velocity_ned_mps: velocity.reflected(),
+            attitude: attitude.reflected(),
+            angular_velocity_radps: rates.reflected_axis(),
+        }
     }
 }
 

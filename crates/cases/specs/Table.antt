@@ -1,9 +1,8 @@
--- The cases of 01, "Flown by hand", marked P: what each definition gives, and the bits that 01 says, as one table. Compared as results are: a zero of either sign is 00000000.
--- Definitions only.
+-- The cases of 01, "Flown by hand", marked P: what each definition gives, and the bits that 01 says, as one table. Compared as results
+-- are: a zero of either sign is 00000000. Definitions only.
 use Prim.Native.Nat.{ℕ}
 use lib.Dec.{eqb}
-use lib.Ieee.{Float, binary32, fin, inf, nan, neg, toBits}
-use lib.IntN.{negsuc}
+use lib.Ieee.{Float, binary32, inf, nan, neg, toBits}
 use mathlib.Core.Bool.{Bool, _&&_, false, true}
 use mathlib.Core.List.{List, [], _∷_}
 use Rattle.aero.specs.Coefficients.{stallBlend}
@@ -33,7 +32,7 @@ unfoldable pub blunt : AeroCoefficients
 blunt = record {
   «c_lift_0» = nought;
   «c_lift_alpha» = nought;
-  «alpha_stall_rad» = fin false 1 (negsuc 1);
+  «alpha_stall_rad» = rounded 25 100;
   «stall_sharpness» = nought;
   «c_drag_0» = nought;
   oswald = one;
@@ -58,7 +57,15 @@ blunt = record {
 
 -- a disc of 1 m² with a sink loss of 0.5
 unfoldable pub disc : PropWash
-disc = record { «disc_area_m2» = one; «surface_fraction» = one; «roll_fraction» = one; «damping_fraction» = one; «sink_loss» = half; «pitch_moment» = nought; «stall_pitch_moment» = nought }
+disc = record {
+  «disc_area_m2» = one;
+  «surface_fraction» = one;
+  «roll_fraction» = one;
+  «damping_fraction» = one;
+  «sink_loss» = half;
+  «pitch_moment» = nought;
+  «stall_pitch_moment» = nought;
+}
 
 -- one servo on slot 0, factor 0.5 on each axis
 unfoldable pub oneServo : List Vec3

@@ -1,4 +1,4 @@
--- The share of thrust in a reflected flight: the same, as data. Assumes nothing.
+-- The share of thrust in a reflected flight: the same, as data, since it takes max(speed, 0), which has no sign of zero. Assumes nothing.
 use lib.Ieee.{Float}
 use mathlib.Core.Bool.{false}
 use mathlib.Core.Path.{_≡_}

@@ -39,7 +39,8 @@ pub struct AeroCoefficients {
     pub c_yaw_rudder: f32,
 }
 
-// A rigid body with a wing, three control surfaces and props along body x.
+// A rigid body with a wing, three control surfaces and props along body x. What the Rust's model says of the motors besides, their
+// thrust at full command, its exponent and their lag, stands with the group of motors.
 pub struct FixedWingModel {
     pub mass_kg: f32,
     // Principal moments of inertia about the FRD body axes (roll, pitch, yaw).
@@ -51,12 +52,8 @@ pub struct FixedWingModel {
     // Deflection at full servo command of the aileron (x), elevator (y) and rudder (z) axes.
     pub max_deflection_rad: Vec3,
     pub servo_time_constant_s: f32,
-    // Each motor's thrust at full command and no airspeed.
-    pub max_thrust_n: f32,
-    pub thrust_exponent: f32,
     pub thrust_falloff: ThrustFalloff,
     pub thrust_line_below_cg_m: f32,
-    pub motor_time_constant_s: f32,
 }
 
 // Wing aspect ratio: span² over area.

@@ -7,10 +7,11 @@ use mathlib.Core.Bool.{Bool, cond, false, true}
 use mathlib.Core.List.{List}
 use mathlib.Core.Path.{_∙_, _≡_, ap, refl, sym}
 use native.Mathlib.Omega.{arith}
-use Rattle.float.proofs.Ordered.{pass-none, pass-some, some-eqb}
+use Rattle.ordered.proofs.Ordered.{pass-none, pass-some, some-eqb}
 use Rattle.float.specs.Interval.{inside}
 use Rattle.float.specs.Notation.{minusOne, nought, one, rounded}
-use Rattle.float.specs.Ordered.{after, allPass, firstFail, orElse}
+use Rattle.ordered.specs.Contracts.{allPass}
+use Rattle.ordered.specs.Ordered.{after, firstFail, orElse}
 use Rattle.vector.specs.Rotation.{quatNorm}
 use Rattle.vector.specs.Vector.{vecInside}
 use Rattle.vector.specs.declared.Quaternion.{Quaternion}
@@ -73,12 +74,15 @@ none-slots low high xs = go (allPass (slotInside low high xs) 8) refl
     go false e = some-eqb _ (pass-some _ 8 e) ∙ sym e
 
 -- the tests of a state, each by itself
+abbrev and : Bool → Bool → Bool
+and a b = cond b a false
+
 pub inside-all : (f : Flight)
     → isInside f
-    ≡ cond
-    (cond (cond (allPass (slotInside minusOne one (f .servos)) 8) (allPass (slotInside nought one (f .motors)) 8) false)
-    (cond (cond (vecInside (rounded 100 1) (f .«angular_velocity_radps»)) (inside (rounded 9 10) (rounded 11 10) (quatNorm (f .attitude))) false) (vecInside (rounded 1000 1) (f .«velocity_ned_mps»)) false) false)
-    (vecInside (rounded 1000000 1) (f .«position_ned_m»))
-    false
+    ≡ and (vecInside (rounded 1000000 1) (f .body .«position_ned_m»))
+    (and (vecInside (rounded 1000 1) (f .body .«velocity_ned_mps»))
+    (and (inside (rounded 9 10) (rounded 11 10) (quatNorm (f .body .attitude)))
+    (and (vecInside (rounded 100 1) (f .body .«angular_velocity_radps»))
+    (and (allPass (slotInside nought one (f .motors)) 8) (allPass (slotInside minusOne one (f .servos)) 8)))))
 unfolding isInside outsideOf
 inside-all f = simp (none-or, none-after, none-vec, none-attitude, none-slots)

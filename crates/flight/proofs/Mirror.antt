@@ -2,9 +2,10 @@
 use lib.Ieee.{Float}
 use mathlib.Core.Bool.{Bool}
 use mathlib.Core.Path.{_≡_, refl}
-use Rattle.float.proofs.Ordered.{inside-rel}
+use Rattle.body.proofs.Mirror.{reflect-body}
+use Rattle.float.proofs.Bounds.{inside-rel}
 use Rattle.float.specs.Notation.{rounded}
-use Rattle.vector.proofs.Mirror.{quat-norm-is, reflect-axis, reflect-quat, reflect-vec}
+use Rattle.vector.proofs.Mirror.{quat-norm-is, reflect-vec}
 use Rattle.vector.specs.Reflection.{QuatRel, VecRel}
 use Rattle.vector.specs.declared.Quaternion.{Quaternion}
 use Rattle.vector.specs.declared.Vec3.{Vec3}
@@ -23,19 +24,12 @@ attitude-outside-is h = rw (quat-norm-is h)
 
 pub outside-is : {f f' : Flight} → FlightRel f f' → outsideOf f' ≡ outsideOf f
 unfolding outsideOf
-outside-is h = rw (vec-outside-is (rounded 1000000 1) (h .position), vec-outside-is (rounded 1000 1) (h .velocity), attitude-outside-is (h .attitude), vec-outside-is (rounded 100 1) (h .rates), h .motors, h .servos)
+outside-is h = rw (vec-outside-is (rounded 1000000 1) (h .body .position), vec-outside-is (rounded 1000 1) (h .body .velocity), attitude-outside-is (h .body .attitude), vec-outside-is (rounded 100 1) (h .body .rates), h .motors, h .servos)
 
 -- the reflection by flipping sign bits is one
 pub reflect-flight : (f : Flight) → FlightRel f (reflectFlight f)
 unfolding reflectFlight
-reflect-flight f = record {
-  position = reflect-vec (f .«position_ned_m»);
-  velocity = reflect-vec (f .«velocity_ned_mps»);
-  attitude = reflect-quat (f .attitude);
-  rates = reflect-axis (f .«angular_velocity_radps»);
-  motors = refl;
-  servos = refl;
-}
+reflect-flight f = record { body = reflect-body (f .body); motors = refl; servos = refl }
 
 pub reflect-tick : (t : Tick) → TickRel t (reflectTick t)
 unfolding reflectTick

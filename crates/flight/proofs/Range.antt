@@ -1,7 +1,8 @@
 -- What a state inside the envelope tells of its running values. Assumes nothing.
 use Prim.Native.Nat.{_<_, ℕ}
 use mathlib.Core.Path.{_≡_}
-use Rattle.float.proofs.Ordered.{after-none, all-pass, inside-within, or-none}
+use Rattle.float.proofs.Bounds.{inside-within}
+use Rattle.ordered.proofs.Ordered.{after-none, all-pass, or-none}
 use Rattle.float.specs.Interval.{Within}
 use Rattle.float.specs.Notation.{minusOne, nought, one}
 use Rattle.mixers.specs.Slots.{at}
@@ -12,8 +13,9 @@ module _ (f : Flight) (e : outsideOf f ≡ 0) where
   slots-none : (slotsOutside nought one (f .motors) ≡ 0) × (slotsOutside minusOne one (f .servos) ≡ 0)
   unfolding outsideOf
   slots-none =
-      let a = or-none _ _ (or-none _ _ e .1) .1 in
-      let b = or-none _ _ a in
+      let after-velocity = or-none _ _ (or-none _ _ e .1) .1 in
+      let after-rates = or-none _ _ (or-none _ _ after-velocity .1) .1 in
+      let b = or-none _ _ after-rates in
       (after-none _ _ (b .0), after-none _ _ (b .1))
 
   pub motor-within : (k : ℕ) → k < 8 → Within nought one (at (f .motors) k)

@@ -1,14 +1,14 @@
--- The envelope (01, "Envelope"): position within ±1,000,000, velocity ±1,000, N in 0.9..1.1, rates ±100, motors 0..1, servos -1..1, all slots. One ordered definition that
--- names the first test that breaks; a NaN is outside, -0 is 0. Definitions only.
+-- The envelope (01, "Envelope"): position within ±1,000,000, velocity ±1,000, N in 0.9..1.1, rates ±100, motors 0..1, servos -1..1,
+-- all slots. One ordered definition that names the first test that breaks; a NaN is outside, -0 is 0. Definitions only.
 use Prim.Native.Nat.{ℕ}
 use lib.Dec.{eqb}
 use lib.Ieee.{Float, low, neg}
 use lib.ListN.{replicate}
 use mathlib.Core.Bool.{Bool, cond}
-use mathlib.Core.List.{List}
+use mathlib.Core.List.{List, [], _∷_}
 use Rattle.float.specs.Interval.{inside}
 use Rattle.float.specs.Notation.{minusOne, nought, one, rounded}
-use Rattle.float.specs.Ordered.{after, firstFail, orElse}
+use Rattle.ordered.specs.Ordered.{after, firstFail, firstOf}
 use Rattle.mixers.specs.Slots.{at}
 use Rattle.vector.specs.Rotation.{quat, quatNorm}
 use Rattle.vector.specs.Vector.{zeroVec}
@@ -18,17 +18,22 @@ use Rattle.flight.specs.declared.Flight.{Flight}
 
 abbrev pub zeroFlight : Flight
 zeroFlight = record {
-  «position_ned_m» = zeroVec;
-  «velocity_ned_mps» = zeroVec;
-  attitude = quat nought nought nought nought;
-  «angular_velocity_radps» = zeroVec;
+  body = record {
+    «position_ned_m» = zeroVec;
+    «velocity_ned_mps» = zeroVec;
+    attitude = quat nought nought nought nought;
+    «angular_velocity_radps» = zeroVec;
+  };
   motors = replicate 8 nought;
   servos = replicate 8 nought;
 }
 
 -- a vector's components, each within ±limit
 unfoldable pub vecOutside : Float → Vec3 → ℕ
-vecOutside limit v = cond (inside (neg limit) limit (v .x)) (cond (inside (neg limit) limit (v .y)) (cond (inside (neg limit) limit (v .z)) 0 3) 2) 1
+vecOutside limit v =
+    cond (inside (neg limit) limit (v .x))
+    (cond (inside (neg limit) limit (v .y)) (cond (inside (neg limit) limit (v .z)) 0 3) 2)
+    1
 
 -- the 8 slots' values, each within low..high
 unfoldable pub slotInside : Float → Float → List Float → ℕ → Bool
@@ -40,13 +45,18 @@ slotsOutside low high xs = firstFail (slotInside low high xs) 0 8
 unfoldable pub attitudeOutside : Quaternion → ℕ
 attitudeOutside q = cond (inside (rounded 9 10) (rounded 11 10) (quatNorm q)) 0 1
 
--- in the state's own order: 3 of position, 3 of velocity, the attitude, 3 of rates, 8 motors, 8 servos
+-- a line for each part, in the state's own order, after as many tests as stand before it: 3 of position, 3 of velocity, the
+-- attitude, 3 of rates, 8 motors, 8 servos
 unfoldable pub outsideOf : Flight → ℕ
 outsideOf f =
-    orElse (vecOutside (rounded 1000000 1) (f .«position_ned_m»))
-    (orElse
-    (orElse (after 3 (vecOutside (rounded 1000 1) (f .«velocity_ned_mps»))) (orElse (after 6 (attitudeOutside (f .attitude))) (after 7 (vecOutside (rounded 100 1) (f .«angular_velocity_radps»)))))
-    (orElse (after 10 (slotsOutside nought one (f .motors))) (after 18 (slotsOutside minusOne one (f .servos)))))
+    firstOf
+    (vecOutside (rounded 1000000 1) (f .body .«position_ned_m»)
+    ∷ after 3 (vecOutside (rounded 1000 1) (f .body .«velocity_ned_mps»))
+    ∷ after 6 (attitudeOutside (f .body .attitude))
+    ∷ after 7 (vecOutside (rounded 100 1) (f .body .«angular_velocity_radps»))
+    ∷ after 10 (slotsOutside nought one (f .motors))
+    ∷ after 18 (slotsOutside minusOne one (f .servos))
+    ∷ [])
 
 -- an accepted state: 7 does not hold of it
 unfoldable pub isInside : Flight → Bool

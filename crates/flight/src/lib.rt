@@ -1,20 +1,16 @@
 // The flight state, one plain record of floats, and what a tick is given.
 ghost use mathlib.Core.Path.{_≡_};
 ghost use Prim.Native.Nat.{_≤_};
-ghost use lib.ListN.{length};
-ghost use Rattle.float.specs.Ordered.{allPass};
+ghost use Rattle.ordered.specs.Contracts.{allPass};
 ghost use Rattle.flight.specs.Envelope as Envelope;
 ghost use Rattle.flight.specs.Reflection as Reflection;
+use body::Body;
 use vector::Quaternion;
 use vector::Vec3;
 
 // The body on NED world axes and FRD body axes, and the commands that motors and servos run at.
 pub struct Flight {
-    pub position_ned_m: Vec3,
-    pub velocity_ned_mps: Vec3,
-    pub attitude: Quaternion,
-    // FRD body rates p, q, r.
-    pub angular_velocity_radps: Vec3,
+    pub body: Body,
     pub motors: [f32; 8],
     pub servos: [f32; 8],
 }
@@ -41,11 +37,14 @@ impl Flight {
         };
         let motors = [0.0; 8];
         let servos = [0.0; 8];
-        Flight {
+        let body = Body {
             position_ned_m: zero,
             velocity_ned_mps: zero,
             attitude,
             angular_velocity_radps: zero,
+        };
+        Flight {
+            body,
             motors,
             servos,
         }
@@ -56,18 +55,24 @@ impl Flight {
     pub fn outside(self) -> u32
         ensures { λ r. ⌜ r ≡ Envelope.outsideOf self ⌝ }
     {
+        let body = self.body;
         let running = self.motors;
         let positions = self.servos;
-        let servos = float::after(18, slots_outside(positions, -1.0, 1.0));
-        let motors = float::after(10, slots_outside(running, 0.0, 1.0));
-        let rates = float::after(7, vec_outside(self.angular_velocity_radps, 100.0));
-        let attitude = float::after(6, attitude_outside(self.attitude));
-        let velocity = float::after(3, vec_outside(self.velocity_ned_mps, 1000.0));
-        let position = vec_outside(self.position_ned_m, 1000000.0);
-        let body = float::or_else(velocity, float::or_else(attitude, rates));
-        float::or_else(
+        let position = vec_outside(body.position_ned_m, 1000000.0);
+        let velocity = ordered::after(3, vec_outside(body.velocity_ned_mps, 1000.0));
+        let attitude = ordered::after(6, attitude_outside(body.attitude));
+        let rates = ordered::after(7, vec_outside(body.angular_velocity_radps, 100.0));
+        let motors = ordered::after(10, slots_outside(running, 0.0, 1.0));
+        let servos = ordered::after(18, slots_outside(positions, -1.0, 1.0));
+        ordered::or_else(
             position,
-            float::or_else(body, float::or_else(motors, servos)),
+            ordered::or_else(
+                velocity,
+                ordered::or_else(
+                    attitude,
+                    ordered::or_else(rates, ordered::or_else(motors, servos)),
+                ),
+            ),
         )
     }
 }
@@ -105,7 +110,7 @@ fn slots_inside(values: [f32; 8], low: f32, high: f32) -> bool
     let mut ok = true;
     let mut i = 0usize;
     while i < 8 {
-        ok = float::both(ok, float::inside(values[i], low, high));
+        ok = ordered::both(ok, float::inside(values[i], low, high));
         i += 1;
     }
     ok
@@ -133,17 +138,25 @@ impl Flight {
     pub fn is_inside(self) -> bool
         ensures { λ r. ⌜ r ≡ Envelope.isInside self ⌝ }
     {
+        let body = self.body;
         let running = self.motors;
         let positions = self.servos;
-        let slots = float::both(
-            slots_inside(running, 0.0, 1.0),
-            slots_inside(positions, -1.0, 1.0),
-        );
-        let attitude = float::inside(self.attitude.norm_squared(), 0.9, 1.1);
-        let turning = float::both(attitude, self.angular_velocity_radps.is_inside(100.0));
-        let moving = float::both(self.velocity_ned_mps.is_inside(1000.0), turning);
-        let position = self.position_ned_m.is_inside(1000000.0);
-        float::both(position, float::both(moving, slots))
+        let position = body.position_ned_m.is_inside(1000000.0);
+        let velocity = body.velocity_ned_mps.is_inside(1000.0);
+        let attitude = float::inside(body.attitude.norm_squared(), 0.9, 1.1);
+        let rates = body.angular_velocity_radps.is_inside(100.0);
+        let motors = slots_inside(running, 0.0, 1.0);
+        let servos = slots_inside(positions, -1.0, 1.0);
+        ordered::both(
+            position,
+            ordered::both(
+                velocity,
+                ordered::both(
+                    attitude,
+                    ordered::both(rates, ordered::both(motors, servos)),
+                ),
+            ),
+        )
     }
 }
 
@@ -152,17 +165,11 @@ impl Flight {
     pub fn reflected(self) -> Self
         ensures { λ r. ⌜ r ≡ Reflection.reflectFlight self ⌝ }
     {
-        let position = self.position_ned_m;
-        let velocity = self.velocity_ned_mps;
-        let attitude = self.attitude;
-        let rates = self.angular_velocity_radps;
+        let body = self.body;
         let motors = self.motors;
         let servos = self.servos;
         Flight {
-            position_ned_m: position.reflected(),
-            velocity_ned_mps: velocity.reflected(),
-            attitude: attitude.reflected(),
-            angular_velocity_radps: rates.reflected_axis(),
+            body: body.reflected(),
             motors,
             servos,
         }

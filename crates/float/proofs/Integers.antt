@@ -1,4 +1,4 @@
--- Signed integers near 0, and floats below 2 ^ 24 as integers. Assumes nothing.
+-- Signed integers near 0, and floats below 2 ^ 24 as integers: the cut of such a float is below 2 ^ 24 too, so the machine and the format hold it. Assumes nothing.
 use Prim.Native.Nat.{_*_, _+_, _-_, _/_, _<_, _^_, _≤_, min, suc, zero, ℕ}
 use lib.Arith.{le→nltb, lt→nleb}
 use lib.Dec.{T, leb, leb→le, le→leb, ltb, ltb→lt, lt→ltb}

@@ -11,5 +11,5 @@ pub mod Tests
 pub mod Mirror
 pub mod Patterns
 pub mod Integers
-pub mod Ordered
+pub mod Bounds
 pub mod Held

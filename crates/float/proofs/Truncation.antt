@@ -1,7 +1,8 @@
--- Cutting a float to an integer keeps the order, and a zero's sign does not matter to it. Assumes nothing.
+-- Cutting a float to an integer keeps the order, since dividing does, and a zero's sign does not matter to it. Assumes nothing.
 use Prim.Native.Nat.{_*_, _+_, _-_, _/_, _<_, _^_, _≤_, min, suc, zero, zero-le, ℕ}
 use lib.Dec.{T, le→leb}
-use lib.Ieee.{Float, binary32, down, fin, inf, le, nan, ofInt, toSigned, up}
+use lib.Ieee.{Float, binary32, down, fin, inf, le, lt, nan, ofInt, toSigned, up}
+use lib.Ieee.Bits.{is-true}
 use lib.Ieee.Fits.{down-pos}
 use lib.Ieee.Nearest.{div-mono}
 use lib.Ieee.Scale.{finite}
@@ -12,11 +13,9 @@ use mathlib.Core.Logic.{inl, inr}
 use mathlib.Core.Path.{_∙_, _≡_, ap, refl, sym}
 use native.Mathlib.Nat.{eq-zero-or-pos, le-of-suc-le-suc, le-refl, mul-pos, not-le-of-lt, zero-div, zero-mul}
 use native.Mathlib.Omega.{arith}
-use Rattle.float.proofs.Mirror.{r-cond, r-is, r-lt, r-same, same-and}
 use Rattle.float.proofs.Order.{le→cross}
-use Rattle.float.specs.Notation.{nought}
+use Rattle.float.specs.Contracts.{wholePart}
 use Rattle.float.specs.Same.{Rel, num}
-use Rattle.float.specs.Whole.{wholePart}
 
 min-mono : (a b c : ℕ) → a ≤ b → min a c ≤ min b c
 min-mono a b c h = omega arith
@@ -76,8 +75,7 @@ toSigned-num h (fin s (suc m) e) = refl
 pub r-truncate : {x x' : Float} (h : ℕ) → Rel false x x' → toSigned h x' ≡ toSigned h x
 r-truncate {x} {x'} h r = sym (toSigned-num h x') ∙ ap (toSigned h) (r .same) ∙ toSigned-num h x
 
-pub r-whole : {x x' : Float} → Rel false x x' → Rel false (wholePart x) (wholePart x')
+-- ---- a float without its fraction, as the code holds it
+pub whole-is : (x : Float) → T (lt (fin true 1 (pos 24)) x) → T (lt x (fin false 1 (pos 24))) → wholePart x ≡ ofInt binary32 (toSigned 63 x)
 unfolding wholePart
-r-whole {x} {x'} r =
-    r-cond _ _ (same-and _ _ _ _ (r-lt (r-same (fin true 1 (pos 24))) r) (r-lt r (r-same (fin false 1 (pos 24)))))
-    (r-is (ap (ofInt binary32) (r-truncate 63 r))) (r-same nought)
+whole-is x a b = rw (is-true (lt (fin true 1 (pos 24)) x) a, is-true (lt x (fin false 1 (pos 24))) b)

@@ -1,7 +1,7 @@
--- What to believe of 32-bit floats: notation, bytes, truncation, intervals, and what it is to be the same number or the opposite one.
+-- What to believe of 32-bit floats: notation, bytes, intervals, and what it is to be the same number or the opposite one; and what the
+-- code's promises name besides.
 pub mod Notation
 pub mod Bytes
-pub mod Whole
 pub mod Interval
 pub mod Same
-pub mod Ordered
+pub mod Contracts

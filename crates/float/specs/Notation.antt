@@ -1,5 +1,5 @@
--- The notation of all definitions: 32-bit IEEE 754 operations, each rounded once, and constants rounded once (01, "Blocks" and "Numbers the Rust takes from elsewhere").
--- Definitions only.
+-- The notation of all definitions: 32-bit IEEE 754 operations, each rounded once, and constants rounded once (01, "Blocks" and
+-- "Numbers the Rust takes from elsewhere"). Definitions only.
 use Prim.Native.Nat.{suc, zero, ℕ}
 use lib.Ieee.{Float, add, binary32, div, fin, inf, lt, mul, nan, ofBits, round, sub}
 use lib.IntN.{negsuc, pos}

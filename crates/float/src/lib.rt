@@ -1,17 +1,16 @@
 // 32-bit floats by their bits and bytes, truncation, and powers of two. No flight in it.
 ghost use mathlib.Core.Path.{_≡_};
 ghost use Prim.Native.Nat.{_+_, _*_, _<_, _≤_, _%_};
-ghost use mathlib.Core.Bool.{cond, true, false};
+ghost use mathlib.Core.Bool.{true, false};
 ghost use lib.IntN.{pos, negsuc};
 ghost use lib.Signed.{leZ};
 ghost use lib.Dec.{T};
 ghost use lib.Ieee as Ieee;
 ghost use lib.Ieee.{fin, binary32};
 ghost use Rattle.float.specs.Bytes.{word, put};
-ghost use Rattle.float.specs.Whole.{wholePart};
+ghost use Rattle.float.specs.Contracts.{wholePart};
 ghost use Rattle.float.specs.Notation as Notation;
 ghost use Rattle.float.specs.Interval as Interval;
-ghost use Rattle.float.specs.Ordered as Ordered;
 
 // The float with these bits; any NaN's bits give a NaN.
 pub fn from_bits(b: u32) -> f32
@@ -144,26 +143,4 @@ pub fn inside(x: f32, lo: f32, hi: f32) -> bool
         return x <= hi;
     }
     false
-}
-
-// Whether both hold: one test more, in a loop over all of them.
-pub fn both(a: bool, b: bool) -> bool
-    ensures { λ r. ⌜ r ≡ cond b a false ⌝ }
-{
-    if b { a } else { false }
-}
-
-// Of two rows of tests, each with the number of its first failed test or 0, the first number that is not 0.
-pub fn or_else(first: u32, second: u32) -> u32
-    ensures { λ r. ⌜ r ≡ Ordered.orElse first second ⌝ }
-{
-    if first == 0 { second } else { first }
-}
-
-// The number of a row's failed test, or 0, counted on from the `count` tests before it.
-pub fn after(count: u32, failed: u32) -> u32
-    requires { ⌜ count ≤ 1000 ⌝ ∗ ⌜ failed ≤ 1000 ⌝ }
-    ensures { λ r. ⌜ r ≡ Ordered.after count failed ⌝ }
-{
-    if failed == 0 { 0 } else { count + failed }
 }

@@ -1,7 +1,6 @@
 -- First-order lag (01, module 1). Definitions only.
-use lib.Ieee.{Float, fin, low, ne, neg}
-use lib.IntN.{negsuc}
-use mathlib.Core.Bool.{cond, false}
+use lib.Ieee.{Float, ne, neg}
+use mathlib.Core.Bool.{cond}
 use Rattle.float.specs.Notation.{_⊕_, _⊖_, _⊗_, _⊘_, clamp, one, rounded}
 use Rattle.libm.specs.Exp.{expOf}
 
@@ -22,7 +21,7 @@ approachSaturated value command low high neutral alpha = approachOf value (satur
 
 -- where an accepted tick's step and an accepted time constant lie: 1/1024..0.02 and 0.001..10
 abbrev pub stepLeast : Float
-stepLeast = fin false 1 (negsuc 9)
+stepLeast = rounded 1 1024
 
 abbrev pub stepMost : Float
 stepMost = rounded 2 100

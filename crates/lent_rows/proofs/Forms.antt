@@ -1,6 +1,7 @@
 -- The lent list and the array form agree: the first rows of an array, lent as a list and walked once, fill the motors and the servos that the array form fills. An array of the array form has 16 rows, and `liveOf` is at most that. Assumes nothing.
 use Prim.Native.Nat.{ℕ, suc, zero, _≤_}
 use lib.Dec.{ltb, ltb→lt, T as Holds}
+use lib.Ieee.{Float}
 use lib.ListN.{getD, length, take}
 use mathlib.Core.Bool.{Bool, cond, false, true}
 use mathlib.Core.List.{List, [], _∷_}
@@ -10,7 +11,7 @@ use native.Mathlib.Omega.{arith}
 use Rattle.mixers.specs.Rows.{liveOf, noRow, putTo}
 use Rattle.mixers.specs.declared.MixRow.{MixRow}
 use Rattle.mixers.specs.declared.Rows.{Rows}
-use Rattle.motors.specs.Motor.{motorsOf, putOf as motorPut, stopped}
+use Rattle.motors.specs.Motor.{groupOf, putOf as motorPut, undriven}
 use Rattle.motors.specs.declared.MotorLayout.{MotorLayout}
 use Rattle.surfaces.specs.Surface.{factorsOf, noFactors, putOf as servoPut, surfacesOf}
 use Rattle.lent_rows.specs.Mixing.{mixFrom, mixOf, putOf, startOf, surfacesIn}
@@ -30,13 +31,13 @@ list-as-array m [] (suc n) l = absurd (not-suc-le-zero l)
 list-as-array m (row ∷ rows) (suc n) l = list-as-array (putOf m row) rows n (le-of-suc-le-suc l) ∙ sym (put-first putOf m row rows n)
 
 -- a mix is filled part by part: each part sees the rows alone
-abbrev parts : MotorLayout → List MixRow → ℕ → Mix
-parts l rows n = record { layout = l; motors = putTo (motorPut l) (stopped l) rows n; factors = putTo servoPut noFactors rows n }
+abbrev parts : MotorLayout → Float → List MixRow → ℕ → Mix
+parts l tau rows n = record { motors = putTo motorPut (undriven l tau) rows n; factors = putTo servoPut noFactors rows n }
 
-by-parts : (l : MotorLayout) (rows : List MixRow) (n : ℕ) → putTo putOf (startOf l) rows n ≡ parts l rows n
+by-parts : (l : MotorLayout) (tau : Float) (rows : List MixRow) (n : ℕ) → putTo putOf (startOf l tau) rows n ≡ parts l tau rows n
 unfolding putTo startOf putOf
-by-parts l rows zero = refl
-by-parts l rows (suc n) = ap (λ (m : Mix). putOf m (getD rows n noRow)) (by-parts l rows n)
+by-parts l tau rows zero = refl
+by-parts l tau rows (suc n) = ap (λ (m : Mix). putOf m (getD rows n noRow)) (by-parts l tau rows n)
 
 live-at : (rows : Rows) (t : Bool) → ltb (rows .count) 16 ≡ t → cond t (rows .count) 16 ≤ 16
 live-at rows true e = omega (arith, ltb→lt (rows .count) 16 (subst Holds (sym e) tt))
@@ -47,16 +48,17 @@ unfolding liveOf
 live-most rows = live-at rows (ltb (rows .count) 16) refl
 
 -- what the lent list fills is what the array form fills
-pub lent-parts : (rows : Rows) (l : MotorLayout) → length (rows .rows) ≡ 16 → mixOf rows l ≡ parts l (rows .rows) (liveOf rows)
+pub lent-parts : (rows : Rows) (l : MotorLayout) (tau : Float) → length (rows .rows) ≡ 16 → mixOf rows l tau ≡ parts l tau (rows .rows) (liveOf rows)
 unfolding mixOf
-lent-parts rows l long = list-as-array (startOf l) (rows .rows) (liveOf rows) (omega (arith, live-most rows, long)) ∙ by-parts l (rows .rows) (liveOf rows)
+lent-parts rows l tau long =
+    list-as-array (startOf l tau) (rows .rows) (liveOf rows) (omega (arith, live-most rows, long)) ∙ by-parts l tau (rows .rows) (liveOf rows)
 
 -- the motors
-pub lent-motors : (rows : Rows) (l : MotorLayout) → length (rows .rows) ≡ 16 → mixOf rows l .motors ≡ motorsOf rows l
-unfolding motorsOf
-lent-motors rows l long = ap (λ (m : Mix). m .motors) (lent-parts rows l long)
+pub lent-motors : (rows : Rows) (l : MotorLayout) (tau : Float) → length (rows .rows) ≡ 16 → mixOf rows l tau .motors ≡ groupOf rows l tau
+unfolding groupOf
+lent-motors rows l tau long = ap (λ (m : Mix). m .motors) (lent-parts rows l tau long)
 
 -- and the servos
-pub lent-surfaces : (rows : Rows) (l : MotorLayout) → length (rows .rows) ≡ 16 → surfacesIn (mixOf rows l) ≡ surfacesOf rows
+pub lent-surfaces : (rows : Rows) (l : MotorLayout) (tau : Float) → length (rows .rows) ≡ 16 → surfacesIn (mixOf rows l tau) ≡ surfacesOf rows
 unfolding surfacesIn surfacesOf factorsOf
-lent-surfaces rows l long = ap surfacesIn (lent-parts rows l long)
+lent-surfaces rows l tau long = ap surfacesIn (lent-parts rows l tau long)

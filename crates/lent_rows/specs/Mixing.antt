@@ -1,23 +1,25 @@
--- A lent list of mixing rows read by slot (01, "Which places take which form": "slice of row structs walked once to fill torques and weights, beside the array form"). Definitions only.
+-- A lent list of mixing rows read by slot (01, "Which places take which form": "slice of row structs walked once to fill torques
+-- and weights, beside the array form"). Definitions only.
+use lib.Ieee.{Float}
 use lib.ListN.{replicate, take}
 use mathlib.Core.List.{List, [], _∷_}
 use Rattle.float.specs.Notation.{nought}
 use Rattle.mixers.specs.Rows.{liveOf}
 use Rattle.mixers.specs.declared.MixRow.{MixRow}
 use Rattle.mixers.specs.declared.Rows.{Rows}
-use Rattle.motors.specs.Motor.{putOf as motorPut, stopped}
+use Rattle.motors.specs.Motor.{putOf as motorPut, undriven}
 use Rattle.motors.specs.declared.MotorLayout.{MotorLayout}
 use Rattle.surfaces.specs.Surface.{noFactors, putOf as servoPut, weighed}
 use Rattle.surfaces.specs.declared.Surfaces.{Surfaces}
 use Rattle.lent_rows.specs.declared.Mix.{Mix}
 
 -- before the first row no motor and no servo is driven
-unfoldable pub startOf : MotorLayout → Mix
-startOf l = record { layout = l; motors = stopped l; factors = noFactors }
+unfoldable pub startOf : MotorLayout → Float → Mix
+startOf l tau = record { motors = undriven l tau; factors = noFactors }
 
 -- one row: a motor row goes to the motors, a servo row to the factors (01, modules 2 and 3)
 unfoldable pub putOf : Mix → MixRow → Mix
-putOf m row = record { layout = m .layout; motors = motorPut (m .layout) (m .motors) row; factors = servoPut (m .factors) row }
+putOf m row = record { motors = motorPut (m .motors) row; factors = servoPut (m .factors) row }
 
 -- the rows of a list in their order: a later row of the same slot wins (01, module 2)
 unfoldable pub mixFrom : Mix → List MixRow → Mix
@@ -25,8 +27,8 @@ mixFrom m [] = m
 mixFrom m (row ∷ rows) = mixFrom (putOf m row) rows
 
 -- the rows of the array form, as a list
-unfoldable pub mixOf : Rows → MotorLayout → Mix
-mixOf rows l = mixFrom (startOf l) (take (liveOf rows) (rows .rows))
+unfoldable pub mixOf : Rows → MotorLayout → Float → Mix
+mixOf rows l tau = mixFrom (startOf l tau) (take (liveOf rows) (rows .rows))
 
 -- the servos that are filled, each factor over its axis's sum of squares (01, module 3)
 unfoldable pub surfacesIn : Mix → Surfaces

@@ -3,52 +3,44 @@
 ghost use mathlib.Core.Path.{_≡_};
 ghost use Prim.Native.Nat.{_≤_};
 ghost use lib.ListN.{take};
-ghost use Rattle.motors.specs.Motor.{motorsOf};
+ghost use Rattle.mixers.specs.Rows.{mostRows};
+ghost use Rattle.motors.specs.Motor.{groupOf};
 ghost use Rattle.surfaces.specs.Surface.{surfacesOf};
 ghost use Rattle.lent_rows.specs.Mixing.{startOf, putOf, mixFrom, mixOf, surfacesIn};
+use mixers::MOST_ROWS;
 use mixers::MixRow;
 use mixers::Rows;
+use motors::MotorGroup;
 use motors::MotorLayout;
-use motors::Motors;
 use surfaces::Factors;
 use surfaces::Surfaces;
 use vector::Vec3;
 
 // What the rows read so far fill.
 pub struct Mix {
-    pub layout: MotorLayout,
-    pub motors: Motors,
+    pub motors: MotorGroup,
     pub factors: Factors,
 }
 
 impl Mix {
     // No row yet: no motor and no servo is driven.
-    pub fn start(layout: MotorLayout) -> Self
-        ensures { λ r. ⌜ r ≡ startOf layout ⌝ }
+    pub fn start(layout: MotorLayout, time_constant_s: f32) -> Self
+        ensures { λ r. ⌜ r ≡ startOf layout «time_constant_s» ⌝ }
     {
-        let motors = Motors::stopped(layout);
+        let motors = MotorGroup::undriven(layout, time_constant_s);
         let factors = Factors {
             at: [Vec3::zeros(); 8],
         };
-        Mix {
-            layout,
-            motors,
-            factors,
-        }
+        Mix { motors, factors }
     }
 
     // One row: a motor's torque or a servo's factors. A later row of a slot wins.
     pub fn put(self, row: MixRow) -> Self
         ensures { λ r. ⌜ r ≡ putOf self row ⌝ }
     {
-        let layout = self.layout;
-        let motors = self.motors.put(row, layout);
+        let motors = self.motors.put(row);
         let factors = self.factors.put(row);
-        Mix {
-            layout,
-            motors,
-            factors,
-        }
+        Mix { motors, factors }
     }
 
     // The servos of the rows read, with their weights. Servos start centered.
@@ -77,8 +69,8 @@ pub fn mixed_from(rows: &[MixRow], start: Mix) -> Mix
 }
 
 // The same by value: the first `count` rows of an array are lent.
-pub fn mixed_lent(list: [MixRow; 16], count: usize, start: Mix) -> Mix
-    requires { ⌜ count ≤ 16 ⌝ }
+pub fn mixed_lent(list: [MixRow; MOST_ROWS], count: usize, start: Mix) -> Mix
+    requires { ⌜ count ≤ mostRows ⌝ }
     ensures { λ r. ⌜ r ≡ mixFrom start (take count list) ⌝ }
 {
     let all = list;
@@ -86,12 +78,12 @@ pub fn mixed_lent(list: [MixRow; 16], count: usize, start: Mix) -> Mix
 }
 
 // The rows of the array form, lent and walked once: they fill what the array form fills.
-pub fn mixed(rows: Rows, layout: MotorLayout) -> Mix
-    ensures { λ r. ⌜ r ≡ mixOf rows layout ⌝ }
-    ensures { λ r. ⌜ r .motors ≡ motorsOf rows layout ⌝ }
+pub fn mixed(rows: Rows, layout: MotorLayout, time_constant_s: f32) -> Mix
+    ensures { λ r. ⌜ r ≡ mixOf rows layout «time_constant_s» ⌝ }
+    ensures { λ r. ⌜ r .motors ≡ groupOf rows layout «time_constant_s» ⌝ }
     ensures { λ r. ⌜ surfacesIn r ≡ surfacesOf rows ⌝ }
 {
     let list = rows.rows;
     let count = rows.live();
-    mixed_lent(list, count, Mix::start(layout))
+    mixed_lent(list, count, Mix::start(layout, time_constant_s))
 }

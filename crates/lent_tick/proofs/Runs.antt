@@ -1,11 +1,11 @@
 -- A run of lent ticks is the run of by-value ticks: the same reports and states call by call, and at the end the record holds the run's last state. Rests on the promise of `tick_in_place` alone. Assumes nothing.
 use Prim.Native.Nat.{_+_, ℕ}
-use mathlib.Core.List.{List, [], _∷_}
+use mathlib.Core.List.{List, _∷_}
 use mathlib.Core.Path.{_∙_, _≡_, ap, ap₂, refl}
 use Rattle.airframe.specs.declared.Airframe.{Airframe}
 use Rattle.flight.specs.declared.Flight.{Flight}
 use Rattle.flight.specs.declared.Tick.{Tick}
-use Rattle.run.specs.Run.{Progress, callsOf, oneIfDone, progressed, runFrom, runOf}
+use Rattle.run.specs.Run.{callsOf, oneIfDone, progressed, runFrom, runOf}
 use Rattle.wing.specs.Tick.{tickOf}
 use Rattle.wing.specs.declared.Report.{Report}
 use Rattle.wing.specs.declared.Ticked.{Ticked}

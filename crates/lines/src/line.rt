@@ -1,8 +1,9 @@
-// A tick's line: index, answer, and the state's first 13 numbers.
+// A tick's line: index, answer, and the 13 numbers of the state's body.
 ghost use mathlib.Core.Path.{_≡_};
 ghost use Prim.Native.Nat.{_+_, _≤_};
 use crate::digits;
 use answers::Answer;
+use body::Body;
 use flight::Flight;
 use vector::Quaternion;
 use vector::Vec3;
@@ -26,15 +27,15 @@ fn put_attitude(out: &mut [u8; 65536], at: usize, q: Quaternion) -> usize
     digits::put_word(out, k, q.k)
 }
 
-// Puts the state's position, velocity, attitude and rates at `at`.
-fn put_state(out: &mut [u8; 65536], at: usize, f: Flight) -> usize
+// Puts the body's position, velocity, attitude and rates at `at`.
+fn put_body(out: &mut [u8; 65536], at: usize, b: Body) -> usize
     requires { ⌜ at + 117 ≤ 65536 ⌝ }
     ensures { λ r. ⌜ r ≡ at + 117 ⌝ }
 {
-    let velocity = put_vec(out, at, f.position_ned_m);
-    let attitude = put_vec(out, velocity, f.velocity_ned_mps);
-    let rates = put_attitude(out, attitude, f.attitude);
-    put_vec(out, rates, f.angular_velocity_radps)
+    let velocity = put_vec(out, at, b.position_ned_m);
+    let attitude = put_vec(out, velocity, b.velocity_ned_mps);
+    let rates = put_attitude(out, attitude, b.attitude);
+    put_vec(out, rates, b.angular_velocity_radps)
 }
 
 // Puts what follows a line's index at `at`.
@@ -43,8 +44,8 @@ fn put_rest(out: &mut [u8; 65536], at: usize, answer: Answer, f: Flight) -> usiz
     ensures { λ r. ⌜ r ≤ at + 139 ⌝ }
 {
     let number = digits::put_byte(out, at, b' ');
-    let state = digits::put_decimal(out, number, digits::wide(answer.number()));
-    let end = put_state(out, state, f);
+    let body = digits::put_decimal(out, number, digits::wide(answer.number()));
+    let end = put_body(out, body, f.body);
     digits::put_byte(out, end, b'\n')
 }
 

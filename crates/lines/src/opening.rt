@@ -1,7 +1,11 @@
 // What stands before the ticks on standard input, the airframe and the state; and the ticks, a buffer at a time.
-ghost use Prim.Native.Nat.{_+_, _≤_};
+ghost use Prim.Native.Nat.{_*_, _+_, _≤_};
+ghost use Rattle.airframe_block.specs.Block.{headerBytes, mostBytes};
+ghost use Rattle.state_block.specs.Layout.{tickBytes};
 use airframe::Airframe;
 use airframe_block::AirframeRead;
+use airframe_block::HEADER_BYTES;
+use airframe_block::MOST_BYTES;
 use answers::Answer;
 use flight::Flight;
 use libc::STDIN_FILENO;
@@ -24,7 +28,7 @@ fn fill(s: &mut [u8], from: usize, to: usize) -> usize
 
 // The length that the two bytes of a good header announce.
 fn announced(a: u8, b: u8) -> usize
-    ensures { λ r. ⌜ 2 ≤ r ⌝ ∗ ⌜ r ≤ 600 ⌝ }
+    ensures { λ r. ⌜ headerBytes ≤ r ⌝ ∗ ⌜ r ≤ mostBytes ⌝ }
 {
     airframe_block::airframe_bytes(a, b)
 }
@@ -37,19 +41,19 @@ fn airframe_in(s: &[u8], end: usize) -> AirframeRead
 }
 
 // The airframe of the header in the first two bytes of s, read into the rest of s.
-fn read_announced(s: &mut [u8; 600]) -> AirframeRead {
+fn read_announced(s: &mut [u8; MOST_BYTES]) -> AirframeRead {
     let to = announced(s[0], s[1]);
-    let end = fill(s, 2, to);
+    let end = fill(s, HEADER_BYTES, to);
     airframe_in(s, end)
 }
 
 // The airframe block: its header alone is wrong in length, or wrong however many bytes follow.
 fn open_airframe() -> AirframeRead {
-    let mut s = [0u8; 600];
-    let n = fill(&mut s, 0, 2);
+    let mut s = [0u8; MOST_BYTES];
+    let n = fill(&mut s, 0, HEADER_BYTES);
     let header = airframe_in(&s, n);
     let answer = header.answer;
-    if n < 2 {
+    if n < HEADER_BYTES {
         return header;
     }
     if answer.number() != 1 {
@@ -66,8 +70,8 @@ fn state_in(s: &[u8], end: usize) -> StateRead
 }
 
 fn open_state() -> StateRead {
-    let mut s = [0u8; 116];
-    let n = fill(&mut s, 0, 116);
+    let mut s = [0u8; state_block::STATE_BYTES];
+    let n = fill(&mut s, 0, state_block::STATE_BYTES);
     state_in(&s, n)
 }
 
@@ -94,9 +98,12 @@ pub fn open() -> Opened {
     }
 }
 
+// How many bytes of ticks are read at a time.
+pub const TICKS_BYTES: usize = 800 * state_block::TICK_BYTES;
+
 // Reads the next 800 ticks, or what is left, and answers how many bytes they are.
 pub fn read_ticks(buf: &mut [u8; 65536]) -> usize
-    ensures { λ r. ⌜ r ≤ 64000 ⌝ }
+    ensures { λ r. ⌜ r ≤ 800 * tickBytes ⌝ }
 {
-    fill(buf, 0, 64000)
+    fill(buf, 0, TICKS_BYTES)
 }

@@ -1,13 +1,15 @@
--- When the tick of a flight and that of its reflection mirror each other (demand 3; 01: "Results compare as numbers: zeros alike, NaNs alike"). Definitions only.
+-- When the tick of a flight and that of its reflection mirror each other (demand 3; 01: "Results compare as numbers: zeros alike,
+-- NaNs alike"). Definitions only.
 use Prim.Native.Nat.{ℕ}
 use lib.Dec.{eqb}
 use lib.Ieee.{Float, eq, ne, neg}
 use mathlib.Core.Bool.{Bool, cond, false}
 use mathlib.Core.List.{List}
 use Rattle.answers.specs.Answers.{numberOf}
+use Rattle.body.specs.declared.Body.{Body}
 use Rattle.flight.specs.Reflection.{reflectFlight}
 use Rattle.flight.specs.declared.Flight.{Flight}
-use Rattle.float.specs.Ordered.{allPass}
+use Rattle.ordered.specs.Contracts.{allPass}
 use Rattle.mixers.specs.Slots.{at}
 use Rattle.vector.specs.declared.Quaternion.{Quaternion}
 use Rattle.vector.specs.declared.Vec3.{Vec3}
@@ -25,18 +27,21 @@ unfoldable pub sameVec : Vec3 → Vec3 → Bool
 sameVec v w = both (both (sameNumber (v .x) (w .x)) (sameNumber (v .y) (w .y))) (sameNumber (v .z) (w .z))
 
 unfoldable pub sameAttitude : Quaternion → Quaternion → Bool
-sameAttitude p q = both (both (sameNumber (p .w) (q .w)) (sameNumber (p .i) (q .i))) (both (sameNumber (p .j) (q .j)) (sameNumber (p .k) (q .k)))
+sameAttitude p q =
+    both (both (sameNumber (p .w) (q .w)) (sameNumber (p .i) (q .i))) (both (sameNumber (p .j) (q .j)) (sameNumber (p .k) (q .k)))
 
 unfoldable pub sameSlot : List Float → List Float → ℕ → Bool
 sameSlot xs ys k = sameNumber (at xs k) (at ys k)
 
-unfoldable pub sameBody : Flight → Flight → Bool
-sameBody f g =
-    both (both (sameVec (f .«position_ned_m») (g .«position_ned_m»)) (sameVec (f .«velocity_ned_mps») (g .«velocity_ned_mps»)))
-    (both (sameAttitude (f .attitude) (g .attitude)) (sameVec (f .«angular_velocity_radps») (g .«angular_velocity_radps»)))
+unfoldable pub sameBody : Body → Body → Bool
+sameBody b c =
+    both (both (sameVec (b .«position_ned_m») (c .«position_ned_m»)) (sameVec (b .«velocity_ned_mps») (c .«velocity_ned_mps»)))
+    (both (sameAttitude (b .attitude) (c .attitude)) (sameVec (b .«angular_velocity_radps») (c .«angular_velocity_radps»)))
 
 unfoldable pub sameFlight : Flight → Flight → Bool
-sameFlight f g = both (sameBody f g) (both (allPass (sameSlot (f .motors) (g .motors)) 8) (allPass (sameSlot (f .servos) (g .servos)) 8))
+sameFlight f g =
+    both (sameBody (f .body) (g .body))
+    (both (allPass (sameSlot (f .motors) (g .motors)) 8) (allPass (sameSlot (f .servos) (g .servos)) 8))
 
 -- the same answer, alpha and thrust, and beta negated
 unfoldable pub mirroredReport : Report → Report → Bool

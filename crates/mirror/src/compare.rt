@@ -1,7 +1,8 @@
 // Whether two ticks mirror each other, as numbers: zeros alike, NaNs alike.
 ghost use mathlib.Core.Path.{_≡_};
-ghost use Rattle.float.specs.Ordered.{allPass};
+ghost use Rattle.ordered.specs.Contracts.{allPass};
 ghost use Rattle.mirror.specs.Compare as Compare;
+use body::Body;
 use flight::Flight;
 use vector::Quaternion;
 use vector::Vec3;
@@ -23,7 +24,7 @@ fn same_vec(v: Vec3, w: Vec3) -> bool
     let x = same(v.x, w.x);
     let y = same(v.y, w.y);
     let z = same(v.z, w.z);
-    float::both(float::both(x, y), z)
+    ordered::both(ordered::both(x, y), z)
 }
 
 fn same_attitude(p: Quaternion, q: Quaternion) -> bool
@@ -33,7 +34,7 @@ fn same_attitude(p: Quaternion, q: Quaternion) -> bool
     let i = same(p.i, q.i);
     let j = same(p.j, q.j);
     let k = same(p.k, q.k);
-    float::both(float::both(w, i), float::both(j, k))
+    ordered::both(ordered::both(w, i), ordered::both(j, k))
 }
 
 fn same_slots(xs: [f32; 8], ys: [f32; 8]) -> bool
@@ -42,22 +43,22 @@ fn same_slots(xs: [f32; 8], ys: [f32; 8]) -> bool
     let mut ok = true;
     let mut i = 0usize;
     while i < 8 {
-        ok = float::both(ok, same(xs[i], ys[i]));
+        ok = ordered::both(ok, same(xs[i], ys[i]));
         i += 1;
     }
     ok
 }
 
-fn same_body(f: Flight, g: Flight) -> bool
-    ensures { λ r. ⌜ r ≡ Compare.sameBody f g ⌝ }
+fn same_body(b: Body, c: Body) -> bool
+    ensures { λ r. ⌜ r ≡ Compare.sameBody b c ⌝ }
 {
-    let position = same_vec(f.position_ned_m, g.position_ned_m);
-    let velocity = same_vec(f.velocity_ned_mps, g.velocity_ned_mps);
-    let attitude = same_attitude(f.attitude, g.attitude);
-    let rates = same_vec(f.angular_velocity_radps, g.angular_velocity_radps);
-    float::both(
-        float::both(position, velocity),
-        float::both(attitude, rates),
+    let position = same_vec(b.position_ned_m, c.position_ned_m);
+    let velocity = same_vec(b.velocity_ned_mps, c.velocity_ned_mps);
+    let attitude = same_attitude(b.attitude, c.attitude);
+    let rates = same_vec(b.angular_velocity_radps, c.angular_velocity_radps);
+    ordered::both(
+        ordered::both(position, velocity),
+        ordered::both(attitude, rates),
     )
 }
 
@@ -70,7 +71,7 @@ fn same_flight(f: Flight, g: Flight) -> bool
     let positions_too = g.servos;
     let motors = same_slots(running, running_too);
     let servos = same_slots(positions, positions_too);
-    float::both(same_body(f, g), float::both(motors, servos))
+    ordered::both(same_body(f.body, g.body), ordered::both(motors, servos))
 }
 
 // The same answer, alpha and thrust; beta negated.
@@ -83,7 +84,7 @@ fn mirrored_report(x: Report, y: Report) -> bool
     let alpha = same(x.alpha_rad, y.alpha_rad);
     let thrust = same(x.thrust_n, y.thrust_n);
     let beta = same(-x.beta_rad, y.beta_rad);
-    float::both(float::both(answer, alpha), float::both(thrust, beta))
+    ordered::both(ordered::both(answer, alpha), ordered::both(thrust, beta))
 }
 
 // Whether y is what the tick of x gives in the reflection.
@@ -92,5 +93,5 @@ pub fn is_mirrored(x: Ticked, y: Ticked) -> bool
 {
     let f = x.flight;
     let report = mirrored_report(x.report, y.report);
-    float::both(report, same_flight(f.reflected(), y.flight))
+    ordered::both(report, same_flight(f.reflected(), y.flight))
 }

@@ -16,8 +16,8 @@ fn fly(a: Airframe, f: Flight) {
     while turns > 0 {
         let n = lines::read_ticks(&mut ticks);
         p = track::fly_some(a, p, &ticks, n, &mut out);
-        if n < 64000 {
-            lines::ended(&out, p.at, n);
+        if n < lines::TICKS_BYTES {
+            lines::ended(&mut out, p.at, n);
             report::summary(p);
             return;
         }

@@ -116,11 +116,12 @@ pub fn fly_some(
     requires { ⌜ n ≤ 65536 ⌝ ∗ ⌜ p .at ≤ 65536 ⌝ }
     ensures { λ r. ⌜ r .at ≤ 65536 ⌝ }
 {
-    let count = n / 80;
+    let count = n / state_block::TICK_BYTES;
     let mut pair = p;
     let mut i = 0;
     while i < count {
-        pair = fly_one(a, pair, state_block::read_tick(ticks, 80 * i), out);
+        let t = state_block::read_tick(ticks, state_block::TICK_BYTES * i);
+        pair = fly_one(a, pair, t, out);
         i += 1;
     }
     pair

@@ -1,2 +1,4 @@
 -- The motors. Definitions only.
 pub mod Motor
+pub mod Reflection
+pub mod Running

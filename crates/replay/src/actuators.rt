@@ -1,11 +1,14 @@
 // The lists of the motors and the surfaces.
 ghost use mathlib.Core.Path.{_≡_};
 ghost use Prim.Native.Nat.{_+_, _≤_};
+ghost use Rattle.mixers.specs.Rows.{mostRows};
 use crate::modules;
 use crate::numbers;
+use mixers::MOST_ROWS;
 use mixers::MixRow;
 use mixers::Rows;
 use mixers::Slot;
+use motors::MotorGroup;
 use motors::MotorLayout;
 use motors::Motors;
 use surfaces::Surfaces;
@@ -65,14 +68,20 @@ pub fn motors(w: &[u32; 192], inputs: usize, out: &mut [u32; 64]) -> usize
     let torque_per_thrust_m = vectors(w, 13);
     let running = numbers::eight(w, 37);
     let commands = numbers::eight(w, 45);
-    let group = Motors {
+    let layout = MotorLayout {
+        moment_arm_m: 0.0,
+        yaw_torque_per_thrust_m: 0.0,
         max_thrust_n: numbers::number(w, 2),
         thrust_exponent: 2.0,
+    };
+    let group = MotorGroup {
+        layout,
+        time_constant_s: 1.0,
         used,
         torque_per_thrust_m,
-        running,
     };
-    let spun = group.spin(commands, numbers::number(w, 4));
+    let motors = Motors { group, running };
+    let spun = motors.spin(commands, numbers::number(w, 4));
     let pull = spun.wrench_with(falloff, numbers::number(w, 3));
     let after = spun.running;
     numbers::put_eight(out, 0, after);
@@ -110,14 +119,14 @@ fn slot_of(kind: u32, index: u32) -> Slot {
 // `count` rows from word `at` on.
 fn rows(w: &[u32; 192], at: usize, count: usize) -> Rows
     requires { ⌜ at ≤ 8 ⌝ }
-    requires { ⌜ count ≤ 16 ⌝ }
+    requires { ⌜ count ≤ mostRows ⌝ }
 {
     let mut list = [MixRow {
         slot: Slot::Motor(0),
         roll: 0.0,
         pitch: 0.0,
         yaw: 0.0,
-    }; 16];
+    }; MOST_ROWS];
     let mut i = 0usize;
     while i < count {
         list[i] = row(w, at + 5 * i);
@@ -130,7 +139,7 @@ pub fn motor_rows(w: &[u32; 192], inputs: usize, out: &mut [u32; 64]) -> usize
     ensures { λ n. ⌜ n ≤ 64 ⌝ }
 {
     let count = wide(w[2]);
-    if count > 16 {
+    if count > MOST_ROWS {
         return 0;
     }
     if inputs != 3 + 5 * count {
@@ -142,7 +151,7 @@ pub fn motor_rows(w: &[u32; 192], inputs: usize, out: &mut [u32; 64]) -> usize
         max_thrust_n: 1.0,
         thrust_exponent: 2.0,
     };
-    let group = Motors::new(rows(w, 3, count), layout);
+    let group = MotorGroup::new(rows(w, 3, count), layout, 1.0);
     let used = group.used;
     let torques = group.torque_per_thrust_m;
     put_flags(out, used);
@@ -169,7 +178,7 @@ pub fn surfaces(w: &[u32; 192], inputs: usize, out: &mut [u32; 64]) -> usize
     ensures { λ n. ⌜ n ≤ 64 ⌝ }
 {
     let count = wide(w[0]);
-    if count > 16 {
+    if count > MOST_ROWS {
         return 0;
     }
     let at = 1 + 5 * count;

@@ -1,14 +1,10 @@
 // The list of whole flights: after `< ` the input of fly in hex, then the lines that fly prints for it, each after `> `.
-ghost use mathlib.Core.Path.{_≡_};
 ghost use Prim.Native.Nat.{_+_, _≤_, _<_};
 ghost use lib.ListN.{length};
 use crate::cases::Tally;
 use crate::words;
 use airframe::Airframe;
 use airframe_block::AirframeRead;
-use answers::Answer;
-use flight::Flight;
-use flight::Tick;
 use state_block::StateRead;
 
 // What fly prints for the flight at hand stands in the first `end` bytes of a page; those before `at` were found in the list, and
@@ -56,80 +52,22 @@ fn state_in(bytes: &[u8], from: usize, end: usize) -> StateRead
     state_block::read_state(&bytes[from..end])
 }
 
-// A decimal of at most two digits.
-fn put_decimal(out: &mut [u8; 65536], at: usize, n: u32) -> usize
-    requires { ⌜ at + 2 ≤ 65536 ⌝ }
-    ensures { λ r. ⌜ r ≤ at + 2 ⌝ }
-{
-    if n < 10 {
-        out[at] = byte(48 + n % 10);
-        return at + 1;
-    }
-    out[at] = byte(48 + n / 10 % 10);
-    out[at + 1] = byte(48 + n % 10);
-    at + 2
-}
-
-// A refused read's line: 0, its answer and its place.
-fn refused(out: &mut [u8; 65536], at: usize, answer: Answer) -> usize
-    requires { ⌜ at + 16 ≤ 65536 ⌝ }
-    ensures { λ r. ⌜ r ≤ at + 16 ⌝ }
-{
-    out[at] = b'0';
-    out[at + 1] = b' ';
-    let a = put_decimal(out, at + 2, answer.number());
-    out[a] = b' ';
-    let b = put_decimal(out, a + 1, answer.place());
-    out[b] = b'\n';
-    b + 1
-}
-
-// The lines of the ticks from byte `from` on of the first n bytes, at most 51 of them.
-fn flown(
-    a: Airframe,
-    f: Flight,
-    bytes: &[u8],
-    from: usize,
-    n: usize,
-    out: &mut [u8; 65536],
-) -> usize
-    requires { ⌜ from ≤ n ⌝ ∗ ⌜ n ≤ 4096 ⌝ ∗ ⌜ n ≤ length (now bytes) ⌝ }
-    ensures { λ r. ⌜ r ≤ 65536 ⌝ }
-{
-    let count = (n - from) / 80;
-    let mut flight = f;
-    let mut at = 0usize;
-    let mut i = 0usize;
-    while i < count {
-        let t = state_block::read_tick(bytes, from + 80 * i);
-        let done = wing::tick(a, flight, t);
-        let report = done.report;
-        flight = done.flight;
-        let answer = report.answer;
-        at = lines::put_line(out, at, (i + 1) as u64, answer, flight);
-        i += 1;
-    }
-    if (n - from) % 80 != 0 {
-        return refused(out, at, Answer::WrongLength);
-    }
-    at
-}
-
 // What fly prints for the first n bytes, of which the airframe is the first `to`.
 fn after_airframe(a: Airframe, bytes: &[u8], to: usize, n: usize, out: &mut [u8; 65536]) -> usize
     requires { ⌜ to ≤ n ⌝ ∗ ⌜ n ≤ 4096 ⌝ ∗ ⌜ n ≤ length (now bytes) ⌝ }
     ensures { λ r. ⌜ r ≤ 65536 ⌝ }
 {
-    let from = least(to + 116, n);
+    let from = least(to + state_block::STATE_BYTES, n);
     if from < to {
         return 0;
     }
     let s = state_in(bytes, to, from);
     let answer = s.answer;
     if answer.number() != 0 {
-        return refused(out, 0, answer);
+        return lines::put_refusal(out, 0, answer);
     }
-    flown(a, s.flight, bytes, from, n, out)
+    let p = lines::fly_ticks(a, lines::start(s.flight), bytes, from, n, out);
+    lines::put_end(out, p.at, n - from)
 }
 
 // What fly prints for the first n bytes.
@@ -140,16 +78,16 @@ fn printed(bytes: &[u8; 4096], n: usize, out: &mut [u8; 65536]) -> usize
     let head = airframe_in(bytes, least(2, n));
     let answer = head.answer;
     if n < 2 {
-        return refused(out, 0, answer);
+        return lines::put_refusal(out, 0, answer);
     }
     if answer.number() != 1 {
-        return refused(out, 0, answer);
+        return lines::put_refusal(out, 0, answer);
     }
     let to = least(airframe_block::airframe_bytes(bytes[0], bytes[1]), n);
     let whole = airframe_in(bytes, to);
     let answer = whole.answer;
     if answer.number() != 0 {
-        return refused(out, 0, answer);
+        return lines::put_refusal(out, 0, answer);
     }
     after_airframe(whole.airframe, bytes, to, n, out)
 }

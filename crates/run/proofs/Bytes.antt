@@ -16,7 +16,7 @@ use Rattle.flight.specs.declared.Tick.{Tick}
 use Rattle.float.proofs.Integers.{small}
 use Rattle.float.specs.Bytes.{byteAt}
 use Rattle.state_block.proofs.Reflection.{reflect-tick-bytes, tick-other}
-use Rattle.state_block.specs.Layout.{tickFrom}
+use Rattle.state_block.specs.Layout.{numberBytes, tickBytes, tickFrom, windAt}
 use Rattle.state_block.specs.Reflection.{flipSign, reflectTickBytes}
 use Rattle.run.specs.Run.{ended, ranOf, ranOver, reflectTo, reflectTrace, runOf, ticksFrom, ticksOf}
 
@@ -36,22 +36,22 @@ set-byte (x ∷ s) (suc i) v l h (suc k) = set-byte s i v l (λ j. h (suc j)) k
 bytes-stay : (s : List ℕ) (n : ℕ) → ((k : ℕ) → byteAt s k < 256) → (k : ℕ) → byteAt (reflectTo s n) k < 256
 unfolding reflectTo reflectTickBytes flipSign
 bytes-stay s zero h = h
-bytes-stay s (suc n) h = set-byte (reflectTo s n) (80 * n + 4 + 4) _ (small (byteAt (reflectTo s n) (80 * n + 4 + 4))) (bytes-stay s n h)
+bytes-stay s (suc n) h = set-byte (reflectTo s n) (tickBytes * n + windAt + numberBytes) _ (small (byteAt (reflectTo s n) (tickBytes * n + windAt + numberBytes))) (bytes-stay s n h)
   where
     small : (b : ℕ) → (b + 128) % 256 < 256
     small b = omega arith
 
 -- ---- tick j, before and after the loop has passed it
-not-yet : (s : List ℕ) (n j : ℕ) → n ≤ j → tickFrom (reflectTo s n) (80 * j) ≡ tickFrom s (80 * j)
+not-yet : (s : List ℕ) (n j : ℕ) → n ≤ j → tickFrom (reflectTo s n) (tickBytes * j) ≡ tickFrom s (tickBytes * j)
 unfolding reflectTo reflectTickBytes
 not-yet s zero j l = refl
-not-yet s (suc n) j l = tick-other (reflectTo s n) (80 * n + 4 + 4) (80 * j) (inl (omega arith)) ∙ not-yet s n j (omega arith)
+not-yet s (suc n) j l = tick-other (reflectTo s n) (tickBytes * n + windAt + numberBytes) (tickBytes * j) (inl (omega arith)) ∙ not-yet s n j (omega arith)
 
-elsewhere : (s : List ℕ) (n j : ℕ) → j < n → tickFrom (reflectTickBytes s (80 * n)) (80 * j) ≡ tickFrom s (80 * j)
+elsewhere : (s : List ℕ) (n j : ℕ) → j < n → tickFrom (reflectTickBytes s (tickBytes * n)) (tickBytes * j) ≡ tickFrom s (tickBytes * j)
 unfolding reflectTickBytes
-elsewhere s n j l = tick-other s (80 * n + 4 + 4) (80 * j) (inr (omega arith))
+elsewhere s n j l = tick-other s (tickBytes * n + windAt + numberBytes) (tickBytes * j) (inr (omega arith))
 
-passed : (s : List ℕ) (n j : ℕ) → ((k : ℕ) → byteAt s k < 256) → j < n → n * 80 ≤ length s → tickFrom (reflectTo s n) (80 * j) ≡ reflectTick (tickFrom s (80 * j))
+passed : (s : List ℕ) (n j : ℕ) → ((k : ℕ) → byteAt s k < 256) → j < n → n * tickBytes ≤ length s → tickFrom (reflectTo s n) (tickBytes * j) ≡ reflectTick (tickFrom s (tickBytes * j))
 unfolding reflectTo
 passed s zero j h l m = absurd (none j l)
   where
@@ -59,15 +59,15 @@ passed s zero j h l m = absurd (none j l)
     none j l = omega arith
 passed s (suc n) j h l m = go (λ g. passed s n j h g (omega arith)) (eq-or-lt-of-le (le-of-suc-le-suc l))
   where
-    long : 80 * n + 80 ≤ length (reflectTo s n)
+    long : tickBytes * n + tickBytes ≤ length (reflectTo s n)
     long = omega (arith, flip-length s n)
 
-    go : (j < n → tickFrom (reflectTo s n) (80 * j) ≡ reflectTick (tickFrom s (80 * j))) → (j ≡ n) ⊎ (j < n) → tickFrom (reflectTickBytes (reflectTo s n) (80 * n)) (80 * j) ≡ reflectTick (tickFrom s (80 * j))
-    go r (inl e) = rw e (reflect-tick-bytes (reflectTo s n) (80 * n) long (bytes-stay s n h) ∙ ap reflectTick (not-yet s n n (le-refl n)))
+    go : (j < n → tickFrom (reflectTo s n) (tickBytes * j) ≡ reflectTick (tickFrom s (tickBytes * j))) → (j ≡ n) ⊎ (j < n) → tickFrom (reflectTickBytes (reflectTo s n) (tickBytes * n)) (tickBytes * j) ≡ reflectTick (tickFrom s (tickBytes * j))
+    go r (inl e) = rw e (reflect-tick-bytes (reflectTo s n) (tickBytes * n) long (bytes-stay s n h) ∙ ap reflectTick (not-yet s n n (le-refl n)))
     go r (inr g) = elsewhere (reflectTo s n) n j g ∙ r g
 
 -- ---- the whole trace
-ticks-are : (s s' : List ℕ) (i m : ℕ) → ((j : ℕ) → j < i + m → tickFrom s' (80 * j) ≡ reflectTick (tickFrom s (80 * j))) → ticksFrom s' i m ≡ map reflectTick (ticksFrom s i m)
+ticks-are : (s s' : List ℕ) (i m : ℕ) → ((j : ℕ) → j < i + m → tickFrom s' (tickBytes * j) ≡ reflectTick (tickFrom s (tickBytes * j))) → ticksFrom s' i m ≡ map reflectTick (ticksFrom s i m)
 unfolding ticksFrom
 ticks-are s s' i zero h = refl
 ticks-are s s' i (suc m) h = ap₂ (λ (t : Tick) (ts : List Tick). t ∷ ts) (h i (omega arith)) (ticks-are s s' (suc i) m (λ j l. h j (omega (arith, l))))
@@ -75,13 +75,13 @@ ticks-are s s' i (suc m) h = ap₂ (λ (t : Tick) (ts : List Tick). t ∷ ts) (h
 pub reflected-ticks : (s : List ℕ) → ((k : ℕ) → byteAt s k < 256) → ticksOf (reflectTrace s) ≡ map reflectTick (ticksOf s)
 unfolding ticksOf reflectTrace
 reflected-ticks s h =
-    let n = length s / 80 in
-    ap (λ (m : ℕ). ticksFrom (reflectTo s n) 0 (m / 80)) (flip-length s n)
-    ∙ ticks-are s (reflectTo s n) 0 n (λ j l. passed s n j h (omega (arith, l)) (div-mul-le-self (length s) 80))
+    let n = length s / tickBytes in
+    ap (λ (m : ℕ). ticksFrom (reflectTo s n) 0 (m / tickBytes)) (flip-length s n)
+    ∙ ticks-are s (reflectTo s n) 0 n (λ j l. passed s n j h (omega (arith, l)) (div-mul-le-self (length s) tickBytes))
 
 -- so the run over the reflected bytes is the run over the reflected ticks
 pub reflected-run : (a : Airframe) (f : Flight) (s : List ℕ) → ((k : ℕ) → byteAt s k < 256) → ranOf a f (reflectTrace s) ≡ ranOver a f s (map reflectTick (ticksOf s))
 unfolding ranOf ranOver
 reflected-run a f s h =
-    let long : length (reflectTrace s) ≡ length s = unfold reflectTrace in flip-length s (length s / 80) in
-    ap₂ (λ (n : ℕ) (ts : List Tick). cond (eqb (n % 80) 0) (ended Done (runOf a f ts .flight) (runOf a f ts .accepted)) (ended WrongLength f 0)) long (reflected-ticks s h)
+    let long : length (reflectTrace s) ≡ length s = unfold reflectTrace in flip-length s (length s / tickBytes) in
+    ap₂ (λ (n : ℕ) (ts : List Tick). cond (eqb (n % tickBytes) 0) (ended Done (runOf a f ts .flight) (runOf a f ts .accepted)) (ended WrongLength f 0)) long (reflected-ticks s h)

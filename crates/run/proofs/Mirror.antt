@@ -1,8 +1,5 @@
 -- Demand 3, proved: the tick's mirror law and its law of ranges, carried over the whole list of ticks by one induction each. Assumes nothing.
 use Prim.Native.Nat.{_+_, ℕ}
-use denote.Index.{place}
-use lib.Dec.{T}
-use mathlib.Core.Bool.{Bool}
 use mathlib.Core.List.{List, [], _∷_, map}
 use mathlib.Core.Path.{_∙_, _≡_, ap, ap₂, refl}
 use Rattle.airframe.proofs.Mirror.{reflect-airframe, refused-place-is}
@@ -16,10 +13,12 @@ use Rattle.flight.specs.Envelope.{outsideOf}
 use Rattle.flight.specs.Reflection.{FlightRel, TickRel, reflectFlight, reflectTick}
 use Rattle.flight.specs.declared.Flight.{Flight}
 use Rattle.flight.specs.declared.Tick.{Tick}
+use Rattle.motors.proofs.Range as Group
+use Rattle.motors.proofs.Range.{still-after, still-same}
 use Rattle.wing.proofs.Mirror.{tick-mirror}
 use Rattle.wing.proofs.Range.{accepted-running, tick-keeps}
 use Rattle.wing.specs.Reflection.{TickedRel}
-use Rattle.wing.specs.Running.{Held, Running, Still}
+use Rattle.wing.proofs.Running.{Held, Running, Still}
 use Rattle.wing.specs.Tick.{tickOf}
 use Rattle.wing.specs.declared.Ticked.{Ticked}
 use Rattle.run.specs.Mirrored.{Agree, All, Each, InRange, Mirrored, Ranges, all-more, all-none, each-more, each-none}
@@ -67,25 +66,26 @@ unfolding runOf
 run-mirror h k ws = let r = run-from-mirror h (record { flight = k; accepted = refl }) ws in (r .flight, r .accepted)
 
 -- ---- the ranges
-in-range : (used : List Bool) (start f : Flight) → Running f → Still used start f → InRange used start f
-in-range used start f r s = record { motor = λ k l u. r .motor k l; surface = λ k l. r .servo k l; unused = λ k l u. s .motor k l u }
+in-range : (a : Airframe) (start f : Flight) → Running f → Still a start f → InRange a start f
+in-range a start f r s = record { motors = Group.in-range (r .motors) (s .motors); surface = r .servo }
 
-still-more : {used : List Bool} {start f g : Flight} → Still used start f → Still used f g → Still used start g
-still-more s t = record { motor = λ k l u. t .motor k l u ∙ s .motor k l u }
+still-more : {a : Airframe} {start f g : Flight} → Still a start f → Still a f g → Still a start g
+still-more s t = record { motors = still-after (s .motors) (t .motors) }
 
-ranges-from : (a : Airframe) (start f : Flight) (ts : List Tick) → refusedPlace a ≡ 0 → Held f → Running f → Still (a .used) start f → All (λ (k : Ticked). InRange (a .used) start (k .flight)) (callsOf a f ts)
+ranges-from : (a : Airframe) (start f : Flight) (ts : List Tick) → refusedPlace a ≡ 0 → Held f → Running f → Still a start f
+    → All (λ (k : Ticked). InRange a start (k .flight)) (callsOf a f ts)
 unfolding callsOf
 ranges-from a start f [] e g r s = all-none
 ranges-from a start f (t ∷ ts) e g r s =
     let k = tick-keeps a f t e g r in
     let u = still-more s (k .still) in
-    all-more (in-range (a .used) start (tickOf a f t .flight) (k .running) u) (ranges-from a start (tickOf a f t .flight) ts e (k .held) (k .running) u)
+    all-more (in-range a start (tickOf a f t .flight) (k .running) u) (ranges-from a start (tickOf a f t .flight) ts e (k .held) (k .running) u)
 
 pub ranges : (a : Airframe) (s : Flight) (ts : List Tick) → refusedPlace a ≡ 0 → outsideOf s ≡ 0 → Held s → Ranges a s ts
 ranges a s ts e o g =
     let r = accepted-running s o in
-    let still : Still (a .used) s s = record { motor = λ k l u. refl } in
-    record { at-start = in-range (a .used) s s r still; after-each = ranges-from a s s ts e g r still }
+    let still : Still a s s = record { motors = still-same _ _ } in
+    record { at-start = in-range a s s r still; after-each = ranges-from a s s ts e g r still }
 
 -- ---- demand 3. `Held s` is what the type of a state tells: its motors' running values are 32-bit floats
 pub mirrored : (a : Airframe) (s : Flight) (ts : List Tick) → refusedPlace a ≡ 0 → outsideOf s ≡ 0 → Held s → Mirrored a s ts
@@ -104,4 +104,4 @@ mirrored a s ts e o g =
     }
   where
     held-reflected : (s : Flight) → Held s → Held (reflectFlight s)
-    held-reflected s g = unfold reflectFlight in record { motor = g .motor }
+    held-reflected s g = unfold reflectFlight in record { motors = g .motors }

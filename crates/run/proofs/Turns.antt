@@ -14,34 +14,35 @@ use Rattle.flight.specs.Envelope.{isInside}
 use Rattle.flight.specs.Reflection.{reflectTick}
 use Rattle.flight.specs.declared.Flight.{Flight}
 use Rattle.flight.specs.declared.Tick.{Tick}
-use Rattle.float.proofs.Ordered.{some-eqb}
+use Rattle.ordered.proofs.Ordered.{some-eqb}
 use Rattle.float.specs.Interval.{inside}
 use Rattle.lag.specs.Lag.{stepLeast, stepMost}
-use Rattle.state_block.specs.Layout.{tickFrom}
-use Rattle.wing.specs.Tick.{flownOf, keptOf, nextOf, refusedOf, tickOf}
+use Rattle.state_block.specs.Layout.{tickBytes, tickFrom}
+use Rattle.wing.specs.Tick.{acceptedTick, unlessDeparted, nextOf, refusedOf, tickOf}
 use Rattle.wing.specs.declared.Ticked.{Ticked}
-use Rattle.run.specs.Run.{Progress, oneIfDone, progressed, runFrom, seen, ticksFrom}
+use Rattle.run.specs.Contracts.{reflectedIf}
+use Rattle.run.specs.Run.{Progress, oneIfDone, progressed, runFrom, ticksFrom}
 
 -- what is left of the run at tick i of n
 abbrev pub left : Bool → Airframe → List ℕ → ℕ → ℕ → Progress → Progress
-left r a s i n p = runFrom a p (map (seen r) (ticksFrom s i (n - i)))
+left r a s i n p = runFrom a p (map (reflectedIf r) (ticksFrom s i (n - i)))
 
-pub turn : (r : Bool) (a : Airframe) (s : List ℕ) (i n : ℕ) (p : Progress) → i < n → left r a s i n p ≡ left r a s (i + 1) n (progressed a p (seen r (tickFrom s (80 * i))))
+pub turn : (r : Bool) (a : Airframe) (s : List ℕ) (i n : ℕ) (p : Progress) → i < n → left r a s i n p ≡ left r a s (i + 1) n (progressed a p (reflectedIf r (tickFrom s (tickBytes * i))))
 unfolding runFrom ticksFrom
-turn r a s i n p l = ap (λ (m : ℕ). runFrom a p (map (seen r) (ticksFrom s i m))) (less i n l) ∙ ap (λ (j : ℕ). runFrom a (progressed a p (seen r (tickFrom s (80 * i)))) (map (seen r) (ticksFrom s j (n - (i + 1))))) (sym (add-one i))
+turn r a s i n p l = ap (λ (m : ℕ). runFrom a p (map (reflectedIf r) (ticksFrom s i m))) (less i n l) ∙ ap (λ (j : ℕ). runFrom a (progressed a p (reflectedIf r (tickFrom s (tickBytes * i)))) (map (reflectedIf r) (ticksFrom s j (n - (i + 1))))) (sym (add-one i))
   where
     less : (i n : ℕ) → i < n → n - i ≡ suc (n - (i + 1))
     less i n l = omega arith
 
 pub turned : (r : Bool) (a : Airframe) (s : List ℕ) (i n : ℕ) (p : Progress) → n ≤ i → left r a s i n p ≡ p
 unfolding runFrom ticksFrom
-turned r a s i n p l = ap (λ (m : ℕ). runFrom a p (map (seen r) (ticksFrom s i m))) (none i n l)
+turned r a s i n p l = ap (λ (m : ℕ). runFrom a p (map (reflectedIf r) (ticksFrom s i m))) (none i n l)
   where
     none : (i n : ℕ) → n ≤ i → n - i ≡ 0
     none i n l = omega arith
 
 -- of an accepted airframe test 6 passes
-pub accepted-tick : (a : Airframe) (f : Flight) (t : Tick) → refusedPlace a ≡ 0 → tickOf a f t ≡ flownOf a f t
+pub accepted-tick : (a : Airframe) (f : Flight) (t : Tick) → refusedPlace a ≡ 0 → tickOf a f t ≡ acceptedTick a f t
 unfolding tickOf
 accepted-tick a f t e = rw e
 
@@ -57,7 +58,7 @@ refused-run a p (t ∷ ts) n = ap (λ (q : Progress). runFrom a q ts) (refused-s
 
 -- from a state outside the envelope, too
 outside-stays : (a : Airframe) (p : Progress) (t : Tick) → refusedPlace a ≡ 0 → isInside (p .flight) ≡ false → progressed a p t ≡ p
-unfolding progressed tickOf flownOf refusedOf oneIfDone
+unfolding progressed tickOf acceptedTick refusedOf oneIfDone
 outside-stays a p t e o = rw (e, o, add-zero)
 
 pub outside-run : (a : Airframe) (p : Progress) (ts : List Tick) → refusedPlace a ≡ 0 → isInside (p .flight) ≡ false → runFrom a p ts ≡ p
@@ -71,8 +72,8 @@ unfolding refusedOf
 kept-inside f n true e i = e
 kept-inside f n false e i = i
 
-pub stays-inside : (a : Airframe) (f : Flight) (t : Tick) → isInside f ≡ true → isInside (flownOf a f t .flight) ≡ true
-unfolding flownOf keptOf refusedOf
+pub stays-inside : (a : Airframe) (f : Flight) (t : Tick) → isInside f ≡ true → isInside (acceptedTick a f t .flight) ≡ true
+unfolding acceptedTick unlessDeparted refusedOf
 stays-inside a f t i = rw i (go (inside stepLeast stepMost (t .«step_s»)))
   where
     go : (b : Bool) → isInside (cond b (cond (isInside (nextOf a f t .flight)) (nextOf a f t) (refusedOf Departure f)) (refusedOf StepOutside f) .flight) ≡ true
@@ -80,11 +81,11 @@ stays-inside a f t i = rw i (go (inside stepLeast stepMost (t .«step_s»)))
     go false = i
 
 -- what a turn of the loop keeps is the run's progress
-pub progress : (a : Airframe) (p : Progress) (t u : Tick) (k : Ticked) (n : ℕ) → refusedPlace a ≡ 0 → u ≡ t → k ≡ flownOf a (p .flight) u → n ≡ oneIfDone (k .report .answer)
+pub progress : (a : Airframe) (p : Progress) (t u : Tick) (k : Ticked) (n : ℕ) → refusedPlace a ≡ 0 → u ≡ t → k ≡ acceptedTick a (p .flight) u → n ≡ oneIfDone (k .report .answer)
     → _≡_ {A = Progress} (record { flight = k .flight; accepted = p .accepted + n }) (progressed a p t)
 unfolding progressed
 progress a p t u k n e h g m =
-    let q : k ≡ tickOf a (p .flight) t = g ∙ ap (flownOf a (p .flight)) h ∙ sym (accepted-tick a (p .flight) t e) in
+    let q : k ≡ tickOf a (p .flight) t = g ∙ ap (acceptedTick a (p .flight)) h ∙ sym (accepted-tick a (p .flight) t e) in
     ap₂ (λ (x : Ticked) (j : ℕ). record { flight = x .flight; accepted = p .accepted + j }) q (m ∙ ap (λ (x : Ticked). oneIfDone (x .report .answer)) q)
 
 -- at the end
@@ -92,12 +93,12 @@ pub whole : (n : ℕ) → n - 0 ≡ n
 whole n = omega arith
 
 -- ---- the ticks as they are, and each one reflected
-pub seen-plain : (ts : List Tick) → map (seen false) ts ≡ ts
-unfolding seen
-seen-plain [] = refl
-seen-plain (t ∷ ts) = ap (λ (us : List Tick). t ∷ us) (seen-plain ts)
+pub plain-track : (ts : List Tick) → map (reflectedIf false) ts ≡ ts
+unfolding reflectedIf
+plain-track [] = refl
+plain-track (t ∷ ts) = ap (λ (us : List Tick). t ∷ us) (plain-track ts)
 
-pub seen-reflected : (ts : List Tick) → map (seen true) ts ≡ map reflectTick ts
-unfolding seen
-seen-reflected [] = refl
-seen-reflected (t ∷ ts) = ap (λ (us : List Tick). reflectTick t ∷ us) (seen-reflected ts)
+pub reflected-track : (ts : List Tick) → map (reflectedIf true) ts ≡ map reflectTick ts
+unfolding reflectedIf
+reflected-track [] = refl
+reflected-track (t ∷ ts) = ap (λ (us : List Tick). reflectTick t ∷ us) (reflected-track ts)

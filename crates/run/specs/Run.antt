@@ -1,18 +1,17 @@
--- A run by demand 2's definition (01, "A run by demand 2's definition keeps a state .. and a count"): it is fed an airframe and ticks in order; each tick gets the state that the last
--- one handed back, after a refusal too. Definitions only.
+-- A run by demand 2's definition (01, "A run by demand 2's definition keeps a state .. and a count"): it is fed an airframe and ticks
+-- in order; each tick gets the state that the last one handed back, after a refusal too. Definitions only.
 use Prim.Native.Nat.{_%_, _*_, _+_, _/_, suc, zero, ℕ}
 use lib.Dec.{eqb}
 use lib.ListN.{length}
-use mathlib.Core.Bool.{Bool, cond}
-use mathlib.Core.List.{List, [], _∷_, map}
+use mathlib.Core.Bool.{cond}
+use mathlib.Core.List.{List, [], _∷_}
 use Rattle.airframe.specs.declared.Airframe.{Airframe}
 use Rattle.answers.specs.Answers.{numberOf}
 use Rattle.answers.specs.declared.Answer.{Answer}
 use Rattle.answers.specs.declared.Answer.the-variants.{Done, WrongLength}
-use Rattle.flight.specs.Reflection.{reflectTick}
 use Rattle.flight.specs.declared.Flight.{Flight}
 use Rattle.flight.specs.declared.Tick.{Tick}
-use Rattle.state_block.specs.Layout.{tickFrom}
+use Rattle.state_block.specs.Layout.{tickBytes, tickFrom}
 use Rattle.state_block.specs.Reflection.{reflectTickBytes}
 use Rattle.wing.specs.Tick.{tickOf}
 use Rattle.wing.specs.declared.Ticked.{Ticked}
@@ -29,7 +28,10 @@ oneIfDone x = cond (eqb (numberOf x) 0) 1 0
 
 -- a refused tick leaves the state and the count; an accepted one's next state is kept, and the count rises by one
 unfoldable pub progressed : Airframe → Progress → Tick → Progress
-progressed a p t = record { flight = tickOf a (p .flight) t .flight; accepted = p .accepted + oneIfDone (tickOf a (p .flight) t .report .answer) }
+progressed a p t = record {
+  flight = tickOf a (p .flight) t .flight;
+  accepted = p .accepted + oneIfDone (tickOf a (p .flight) t .report .answer);
+}
 
 unfoldable pub runFrom : Airframe → Progress → List Tick → Progress
 runFrom a p [] = p
@@ -44,38 +46,29 @@ unfoldable pub callsOf : Airframe → Flight → List Tick → List Ticked
 callsOf a f [] = []
 callsOf a f (t ∷ ts) = tickOf a f t ∷ callsOf a (tickOf a f t .flight) ts
 
--- ---- over a trace's bytes: whole ticks of 80 bytes
+-- ---- over a trace's bytes: whole ticks
 unfoldable pub ticksFrom : List ℕ → ℕ → ℕ → List Tick
 ticksFrom s i zero = []
-ticksFrom s i (suc n) = tickFrom s (80 * i) ∷ ticksFrom s (suc i) n
+ticksFrom s i (suc n) = tickFrom s (tickBytes * i) ∷ ticksFrom s (suc i) n
 
 unfoldable pub ticksOf : List ℕ → List Tick
-ticksOf s = ticksFrom s 0 (length s / 80)
+ticksOf s = ticksFrom s 0 (length s / tickBytes)
 
 unfoldable pub ended : Answer → Flight → ℕ → Ran
 ended x f n = record { answer = x; flight = f; accepted = n }
 
 -- trace length (1) first, which leaves the state, with a count of 0; else the answer is 0, with the run's end state and count
 unfoldable pub ranOver : Airframe → Flight → List ℕ → List Tick → Ran
-ranOver a f s ts = cond (eqb (length s % 80) 0) (ended Done (runOf a f ts .flight) (runOf a f ts .accepted)) (ended WrongLength f 0)
+ranOver a f s ts =
+    cond (eqb (length s % tickBytes) 0) (ended Done (runOf a f ts .flight) (runOf a f ts .accepted)) (ended WrongLength f 0)
 
 unfoldable pub ranOf : Airframe → Flight → List ℕ → Ran
 ranOf a f s = ranOver a f s (ticksOf s)
 
--- ---- a tick as it is, or reflected
-unfoldable pub seen : Bool → Tick → Tick
-seen reflect t = cond reflect (reflectTick t) t
-
-unfoldable pub seenRan : Bool → Airframe → Flight → List ℕ → Ran
-seenRan reflect a f s = ranOver a f s (map (seen reflect) (ticksOf s))
-
-unfoldable pub flewAll : Bool → Airframe → Flight → List ℕ → Ran
-flewAll reflect a f s = ended Done (runOf a f (map (seen reflect) (ticksOf s)) .flight) (runOf a f (map (seen reflect) (ticksOf s)) .accepted)
-
 -- ---- a trace reflected on its bytes: the sign bit of each tick's wind east flipped (01, "a list of ticks is reflected tick by tick")
 unfoldable pub reflectTo : List ℕ → ℕ → List ℕ
 reflectTo s zero = s
-reflectTo s (suc n) = reflectTickBytes (reflectTo s n) (80 * n)
+reflectTo s (suc n) = reflectTickBytes (reflectTo s n) (tickBytes * n)
 
 unfoldable pub reflectTrace : List ℕ → List ℕ
-reflectTrace s = reflectTo s (length s / 80)
+reflectTrace s = reflectTo s (length s / tickBytes)

@@ -1,11 +1,12 @@
 // The run over a trace of ticks, and the mirrored pair of runs.
 ghost use mathlib.Core.Path.{_≡_};
 ghost use Prim.Native.Nat.{_≤_, _+_, _*_};
-ghost use Rattle.state_block.specs.Layout.{tickFrom};
+ghost use Rattle.state_block.specs.Layout.{tickBytes, tickFrom};
 ghost use lib.ListN.{length};
 ghost use mathlib.Core.Bool.{true};
 ghost use Rattle.airframe.specs.Acceptance.{refusedPlace};
 ghost use Rattle.flight.specs.Envelope.{isInside};
+ghost use Rattle.run.specs.Contracts as Contracts;
 ghost use Rattle.run.specs.Run as Run;
 ghost use Rattle.run.specs.Mirrored as Mirrored;
 use airframe::Airframe;
@@ -31,23 +32,23 @@ pub struct Pair {
 pub fn run(a: Airframe, f: Flight, trace: &[u8]) -> Ran
     ensures { λ r. ⌜ r ≡ Run.ranOf a f (now (trace .entry)) ⌝ }
 {
-    seen_run(a, f, trace, false)
+    run_track(a, f, trace, false)
 }
 
 // Flies the trace and, from the reflected state with the reflected airframe, its reflection.
 pub fn mirrored_pair(a: Airframe, f: Flight, trace: &[u8]) -> Pair
     ensures { λ r. ⌜ Mirrored.Flown a f (now (trace .entry)) r ⌝ }
 {
-    let first = seen_run(a, f, trace, false);
-    let second = seen_run(a.reflected(), f.reflected(), trace, true);
+    let first = run_track(a, f, trace, false);
+    let second = run_track(a.reflected(), f.reflected(), trace, true);
     Pair { first, second }
 }
 
-// A run over the trace's ticks as they are, or each one reflected.
-fn seen_run(a: Airframe, f: Flight, trace: &[u8], reflect: bool) -> Ran
-    ensures { λ r. ⌜ r ≡ Run.seenRan reflect a f (now (trace .entry)) ⌝ }
+// The run over the trace's track, or over the reflected track.
+fn run_track(a: Airframe, f: Flight, trace: &[u8], reflect: bool) -> Ran
+    ensures { λ r. ⌜ r ≡ Contracts.trackRan reflect a f (now (trace .entry)) ⌝ }
 {
-    if trace.len() % 80 != 0 {
+    if trace.len() % state_block::TICK_BYTES != 0 {
         return ended(Answer::WrongLength, f, 0);
     }
     if a.refused_place() == 0 {
@@ -73,17 +74,17 @@ fn ended(answer: Answer, flight: Flight, accepted: u64) -> Ran
 // kept was tested as the next one.
 fn fly_all(a: Airframe, f: Flight, trace: &[u8], reflect: bool) -> Ran
     requires { ⌜ refusedPlace a ≡ 0 ⌝ ∗ ⌜ isInside f ≡ true ⌝ }
-    ensures { λ r. ⌜ r ≡ Run.flewAll reflect a f (now (trace .entry)) ⌝ }
+    ensures { λ r. ⌜ r ≡ Contracts.trackFlown reflect a f (now (trace .entry)) ⌝ }
 {
-    let count = trace.len() / 80;
+    let count = trace.len() / state_block::TICK_BYTES;
     let mut flight = f;
-    let mut lags = wing::lags(a, 0.01);
+    let mut lags = wing::begin(a, 0.01);
     let mut accepted = 0u64;
     let mut i = 0usize;
     while i < count {
         let t = tick_at(trace, i, reflect);
-        lags = wing::lags_after(a, lags, t.step_s);
-        let done = wing::flown_on(a, flight, t, lags);
+        lags = wing::begin_after(a, lags, t.step_s);
+        let done = wing::tick_inside(a, flight, t, lags);
         let report = done.report;
         let answer = report.answer;
         accepted += one_if_done(answer);
@@ -95,10 +96,10 @@ fn fly_all(a: Airframe, f: Flight, trace: &[u8], reflect: bool) -> Ran
 
 // The trace's tick i, as it is or reflected.
 fn tick_at(trace: &[u8], i: usize, reflect: bool) -> Tick
-    requires { ⌜ 80 * i + 80 ≤ length (now trace) ⌝ }
-    ensures { λ r. ⌜ r ≡ Run.seen reflect (tickFrom (now (trace .entry)) (80 * i)) ⌝ }
+    requires { ⌜ tickBytes * i + tickBytes ≤ length (now trace) ⌝ }
+    ensures { λ r. ⌜ r ≡ Contracts.reflectedIf reflect (tickFrom (now (trace .entry)) (tickBytes * i)) ⌝ }
 {
-    let t = state_block::read_tick(trace, 80 * i);
+    let t = state_block::read_tick(trace, state_block::TICK_BYTES * i);
     if reflect {
         return t.reflected();
     }

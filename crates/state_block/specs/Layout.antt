@@ -1,5 +1,5 @@
--- The state block and the tick block (01, "Blocks"): which number stands where in the bytes, and what reading and writing a state block gives. A block's bytes are a list of numbers below 256.
--- Definitions only.
+-- The state block and the tick block (01, "Blocks"): which number stands where in the bytes, and what reading and writing a state
+-- block gives. A block's bytes are a list of numbers below 256. Definitions only.
 use Prim.Native.Nat.{_*_, _+_, suc, zero, ℕ}
 use lib.Dec.{eqb}
 use lib.Ieee.{Float, binary32, ofBits, toBits}
@@ -8,6 +8,7 @@ use mathlib.Core.Bool.{cond}
 use mathlib.Core.List.{List}
 use Rattle.answers.specs.declared.Answer.{Answer}
 use Rattle.answers.specs.declared.Answer.the-variants.{Done, StateOutside, WrongLength}
+use Rattle.body.specs.declared.Body.{Body}
 use Rattle.flight.specs.Envelope.{outsideOf, zeroFlight}
 use Rattle.flight.specs.declared.Flight.{Flight}
 use Rattle.flight.specs.declared.Tick.{Tick}
@@ -21,52 +22,66 @@ use Rattle.state_block.specs.declared.StateRead.{StateRead}
 
 -- ---- the table of places: at which byte of its block each part begins; a state's position and a tick's step begin it
 
--- a state, 116 bytes: position, velocity (north, east, down), attitude w i j k, body rates p q r, running motors 8, running servos 8
-abbrev pub stateBytes : ℕ
-stateBytes = 116
+-- every number is an f32 of 4 bytes, the highest first; a vector has 3 numbers, an attitude 4, the slots 8
+abbrev pub numberBytes : ℕ
+numberBytes = 4
 
+abbrev pub vecBytes : ℕ
+vecBytes = 3 * numberBytes
+
+abbrev pub attitudeBytes : ℕ
+attitudeBytes = 4 * numberBytes
+
+abbrev pub slotsBytes : ℕ
+slotsBytes = 8 * numberBytes
+
+-- a state, 116 bytes: position, velocity (north, east, down), attitude w i j k, body rates p q r, running motors 8, running servos 8
 abbrev pub velocityAt : ℕ
-velocityAt = 12
+velocityAt = vecBytes
 
 abbrev pub attitudeAt : ℕ
-attitudeAt = 24
+attitudeAt = velocityAt + vecBytes
 
 abbrev pub ratesAt : ℕ
-ratesAt = 40
+ratesAt = attitudeAt + attitudeBytes
 
 abbrev pub motorsAt : ℕ
-motorsAt = 52
+motorsAt = ratesAt + vecBytes
 
 abbrev pub servosAt : ℕ
-servosAt = 84
+servosAt = motorsAt + slotsBytes
+
+abbrev pub stateBytes : ℕ
+stateBytes = servosAt + slotsBytes
 
 -- a tick, 80 bytes: step h, wind 3 (north, east, down), motor commands 8, servo commands 8
-abbrev pub tickBytes : ℕ
-tickBytes = 80
-
 abbrev pub windAt : ℕ
-windAt = 4
+windAt = numberBytes
 
 abbrev pub motorCommandsAt : ℕ
-motorCommandsAt = 16
+motorCommandsAt = windAt + vecBytes
 
 abbrev pub servoCommandsAt : ℕ
-servoCommandsAt = 48
+servoCommandsAt = motorCommandsAt + slotsBytes
 
--- ---- reading: every number is an f32 of 4 bytes, the highest first
+abbrev pub tickBytes : ℕ
+tickBytes = servoCommandsAt + slotsBytes
+
+-- ---- reading
 
 unfoldable pub floatAt : List ℕ → ℕ → Float
 floatAt s i = ofBits binary32 (word s i)
 
 unfoldable pub vecFrom : List ℕ → ℕ → Vec3
-vecFrom s i = vec (floatAt s i) (floatAt s (i + 4)) (floatAt s (i + 8))
+vecFrom s i = vec (floatAt s i) (floatAt s (i + numberBytes)) (floatAt s (i + 2 * numberBytes))
 
 unfoldable pub attitudeFrom : List ℕ → ℕ → Quaternion
-attitudeFrom s i = quat (floatAt s i) (floatAt s (i + 4)) (floatAt s (i + 8)) (floatAt s (i + 12))
+attitudeFrom s i =
+    quat (floatAt s i) (floatAt s (i + numberBytes)) (floatAt s (i + 2 * numberBytes)) (floatAt s (i + 3 * numberBytes))
 
 -- the number of slot k, where slot 0's stands at i
 unfoldable pub slotFrom : List ℕ → ℕ → ℕ → Float
-slotFrom s i k = floatAt s (i + 4 * k)
+slotFrom s i k = floatAt s (i + numberBytes * k)
 
 unfoldable pub floatsFrom : List ℕ → ℕ → List Float
 floatsFrom s i = slots (slotFrom s i)
@@ -74,10 +89,12 @@ floatsFrom s i = slots (slotFrom s i)
 -- the state whose block begins at i
 unfoldable pub flightFrom : List ℕ → ℕ → Flight
 flightFrom s i = record {
-  «position_ned_m» = vecFrom s i;
-  «velocity_ned_mps» = vecFrom s (i + velocityAt);
-  attitude = attitudeFrom s (i + attitudeAt);
-  «angular_velocity_radps» = vecFrom s (i + ratesAt);
+  body = record {
+    «position_ned_m» = vecFrom s i;
+    «velocity_ned_mps» = vecFrom s (i + velocityAt);
+    attitude = attitudeFrom s (i + attitudeAt);
+    «angular_velocity_radps» = vecFrom s (i + ratesAt);
+  };
   motors = floatsFrom s (i + motorsAt);
   servos = floatsFrom s (i + servosAt);
 }
@@ -103,8 +120,11 @@ acceptedState f = record { answer = Done; flight = f }
 unfoldable pub testedState : Flight → StateRead
 testedState f = cond (eqb (outsideOf f) 0) (acceptedState f) (refusedState StateOutside)
 
+-- by its length, a line for each that is accepted
 unfoldable pub readStateOf : List ℕ → StateRead
-readStateOf s = cond (eqb (length s) stateBytes) (testedState (flightFrom s 0)) (refusedState WrongLength)
+readStateOf s =
+    cond (eqb (length s) stateBytes) (testedState (flightFrom s 0))
+    (refusedState WrongLength)
 
 -- ---- writing: one number after the other, in the block's order
 
@@ -112,26 +132,33 @@ unfoldable pub putFloat : List ℕ → ℕ → Float → List ℕ
 putFloat s i x = put s i (toBits binary32 x)
 
 unfoldable pub putVec : List ℕ → ℕ → Vec3 → List ℕ
-putVec s i v = putFloat (putFloat (putFloat s i (v .x)) (i + 4) (v .y)) (i + 8) (v .z)
+putVec s i v = putFloat (putFloat (putFloat s i (v .x)) (i + numberBytes) (v .y)) (i + 2 * numberBytes) (v .z)
 
 unfoldable pub putAttitude : List ℕ → ℕ → Quaternion → List ℕ
-putAttitude s i q = putFloat (putFloat (putFloat (putFloat s i (q .w)) (i + 4) (q .i)) (i + 8) (q .j)) (i + 12) (q .k)
+putAttitude s i q =
+    putFloat
+    (putFloat (putFloat (putFloat s i (q .w)) (i + numberBytes) (q .i)) (i + 2 * numberBytes) (q .j))
+    (i + 3 * numberBytes)
+    (q .k)
 
 -- the first n slots' numbers
 unfoldable pub putFloats : List ℕ → ℕ → List Float → ℕ → List ℕ
 putFloats s i xs zero = s
-putFloats s i xs (suc n) = putFloat (putFloats s i xs n) (i + 4 * n) (at xs n)
+putFloats s i xs (suc n) = putFloat (putFloats s i xs n) (i + numberBytes * n) (at xs n)
 
 -- the body's numbers, then the running values
-unfoldable pub putBody : List ℕ → ℕ → Flight → List ℕ
-putBody s i f =
+unfoldable pub putBody : List ℕ → ℕ → Body → List ℕ
+putBody s i b =
     putVec
-    (putAttitude (putVec (putVec s i (f .«position_ned_m»)) (i + velocityAt) (f .«velocity_ned_mps»)) (i + attitudeAt) (f .attitude))
+    (putAttitude
+    (putVec (putVec s i (b .«position_ned_m»)) (i + velocityAt) (b .«velocity_ned_mps»))
+    (i + attitudeAt)
+    (b .attitude))
     (i + ratesAt)
-    (f .«angular_velocity_radps»)
+    (b .«angular_velocity_radps»)
 
 unfoldable pub putFlight : List ℕ → ℕ → Flight → List ℕ
-putFlight s i f = putFloats (putFloats (putBody s i f) (i + motorsAt) (f .motors) 8) (i + servosAt) (f .servos) 8
+putFlight s i f = putFloats (putFloats (putBody s i (f .body)) (i + motorsAt) (f .motors) 8) (i + servosAt) (f .servos) 8
 
 -- "Writing a state needs exactly 116 bytes lent, else 1; its numbers are not tested": refused, the bytes stay as found
 unfoldable pub writtenState : List ℕ → Flight → List ℕ

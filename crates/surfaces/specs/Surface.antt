@@ -1,6 +1,5 @@
 -- The control surfaces (01, module 3). Definitions only.
 use Prim.Native.Nat.{ℕ}
-use denote.Index.{row}
 use lib.Dec.{ltb}
 use lib.Ieee.{Float, lt}
 use lib.ListN.{replicate, set}

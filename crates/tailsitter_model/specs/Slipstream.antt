@@ -12,7 +12,9 @@ discPa w thrust = thrust ⊘ w .«disc_area_m2»
 
 unfoldable pub addedPa : PropWash → Float → Float → Float → Float
 addedPa w thrust axial density =
-    cond (lt axial nought) (discPa w thrust ⊖ w .«sink_loss» ⊗ density ⊗ sqrtOf binary32 (two ⊗ discPa w thrust ⊘ density) ⊗ neg axial) (discPa w thrust)
+    cond (lt axial nought)
+    (discPa w thrust ⊖ w .«sink_loss» ⊗ density ⊗ sqrtOf binary32 (two ⊗ discPa w thrust ⊘ density) ⊗ neg axial)
+    (discPa w thrust)
 
 -- the speed of the jet over the wing, and the pressure over the surfaces where it adds to the free stream's
 unfoldable pub flowMps : Float → Float → Float
@@ -31,4 +33,10 @@ unfoldable pub washOf : PropWash → Float → Float → Float → Wash
 washOf w thrust axial density = washFrom w (addedPa w thrust axial density) density
 
 abbrev pub noWash : Wash
-noWash = record { «pressure_pa» = nought; «roll_pressure_pa» = nought; «pitch_moment_pa» = nought; «stall_pitch_moment_pa» = nought; «damping_mps» = nought }
+noWash = record {
+  «pressure_pa» = nought;
+  «roll_pressure_pa» = nought;
+  «pitch_moment_pa» = nought;
+  «stall_pitch_moment_pa» = nought;
+  «damping_mps» = nought;
+}

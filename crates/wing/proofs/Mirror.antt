@@ -8,7 +8,6 @@ use mathlib.Core.Bool.{false, true}
 use mathlib.Core.List.{List}
 use mathlib.Core.Path.{_∙_, _≡_, ap, ap₂, refl, subst, sym}
 use Rattle.aero.proofs.Mirror.{wrench-mirror}
-use Rattle.aero.specs.Coefficients.{exponent}
 use Rattle.aero.specs.Reflection.{AeroRel}
 use Rattle.aero.specs.declared.Aero.{Aero}
 use Rattle.airframe.proofs.Mirror.{refused-place-is}
@@ -31,8 +30,8 @@ use Rattle.float.specs.Interval.{inside}
 use Rattle.float.specs.Notation.{_⊗_, nought}
 use Rattle.float.specs.Same.{Rel}
 use Rattle.lag.specs.Lag.{factorOf, stepLeast, stepMost}
-use Rattle.motors.proofs.Mirror.{MotorsRel, spin-mirror, thrust-is, torque-mirror}
-use Rattle.motors.specs.Motor.{spinOf}
+use Rattle.motors.proofs.Mirror.{MotorsRel, lag-factor-is, spin-mirror, thrust-is, torque-mirror}
+use Rattle.motors.specs.Motor.{lagFactor}
 use Rattle.motors.specs.declared.MotorWrench.{MotorWrench}
 use Rattle.motors.specs.declared.Motors.{Motors}
 use Rattle.surfaces.proofs.Mirror.{SurfacesRel, deflection-mirror, move-mirror}
@@ -43,23 +42,19 @@ use Rattle.vector.proofs.Mirror.{add-mirror, inverse-rotate-mirror, rotate-mirr
 use Rattle.vector.specs.Reflection.{QuatRel, VecRel}
 use Rattle.vector.specs.declared.Quaternion.{Quaternion}
 use Rattle.vector.specs.declared.Vec3.{Vec3}
-use Rattle.wing.specs.Loads.{aeroOf, airOf, bodyOf, loadedOf, loadsOf, motorsFor, pullOf, surfacesFor, washFor}
+use Rattle.wing.specs.Loads.{aeroOf, airOf, withThrust, loadsOf, motorsFor, pullOf, surfacesFor, washFor}
 use Rattle.wing.specs.Reflection.{LoadedRel, TickedRel}
-use Rattle.wing.specs.Tick.{airDensity, flightOf, flownOf, keptOf, massOf, movedOf, nextFrom, nextOf, refusedOf, spunOf, steppedOf, tickOf}
+use Rattle.wing.specs.Tick.{airDensity, acceptedTick, unlessDeparted, massOf, movedOf, nextFrom, nextOf, refusedOf, spunOf, steppedOf, tickOf}
 use Rattle.wing.specs.declared.Loaded.{Loaded}
 use Rattle.wing.specs.declared.Ticked.{Ticked}
 
 motors-mirror : {a a' : Airframe} {f f' : Flight} → AirframeRel a a' → FlightRel f f' → MotorsRel (motorsFor a f) (motorsFor a' f')
 unfolding motorsFor
-motors-mirror h k = record { most = rw (h .model); exponent = rw (h .model); used = h .used; torque = h .torque; running = k .motors }
+motors-mirror h k = record { group = h .motors; running = k .motors }
 
 surfaces-mirror : {a a' : Airframe} {f f' : Flight} → AirframeRel a a' → FlightRel f f' → SurfacesRel (surfacesFor a f) (surfacesFor a' f')
 unfolding surfacesFor
 surfaces-mirror h k = record { weight = h .weight; running = k .servos }
-
-body-mirror : {f f' : Flight} → FlightRel f f' → BodyRel (bodyOf f) (bodyOf f')
-unfolding bodyOf
-body-mirror h = record { position = h .position; velocity = h .velocity; attitude = h .attitude; rates = h .rates }
 
 air-mirror : {b b' : Body} {wind wind' : Vec3} → BodyRel b b' → VecRel false wind wind' → VecRel false (airOf b wind) (airOf b' wind')
 unfolding airOf
@@ -70,10 +65,10 @@ wash-for-is : {a a' : Airframe} {u u' : Float} (thrust density : Float) → Airf
 unfolding washFor
 wash-for-is {a} thrust density h r = rw (h .wash-present, h .wash, wash-is (a .wash) thrust density r)
 
-together-mirror : {q q' : Quaternion} {p p' : MotorWrench} {aero aero' : Aero} {m m' : FixedWingModel} → m' ≡ m → QuatRel q q' → p' .«thrust_n» ≡ p .«thrust_n» → VecRel true (p .«torque_nm») (p' .«torque_nm»)
-    → AeroRel aero aero' → LoadedRel (loadedOf m q p aero) (loadedOf m' q' p' aero')
-unfolding loadedOf
-together-mirror i q e t h = record {
+with-thrust-mirror : {q q' : Quaternion} {p p' : MotorWrench} {aero aero' : Aero} {m m' : FixedWingModel} → m' ≡ m → QuatRel q q' → p' .«thrust_n» ≡ p .«thrust_n» → VecRel true (p .«torque_nm») (p' .«torque_nm»)
+    → AeroRel aero aero' → LoadedRel (withThrust m q p aero) (withThrust m' q' p' aero')
+unfolding withThrust
+with-thrust-mirror i q e t h = record {
   loads = record {
     force = rotate-mirror q (add-mirror (h .force) (vec-mirror (r-is e) (r-zero true false false (pos 0)) (r-zero false false false (pos 0))));
     torque = add-mirror (add-mirror (h .torque) t) (vec-mirror (r-zero true false false (pos 0)) (r-is (ap₂ (λ (z : Float) (n : FixedWingModel). z ⊗ n .«thrust_line_below_cg_m») e i)) (r-zero true false false (pos 0)));
@@ -105,18 +100,14 @@ pub loads-mirror : {a a' : Airframe} {m m' : Motors} {s s' : Surfaces} {b b' : B
 unfolding loadsOf
 loads-mirror density h k l g w =
     let air = air-mirror g w in
-    together-mirror (h .model) (g .attitude) (pull-is h k air) (pull-mirror h k air) (aero-mirror density h k l g air)
+    with-thrust-mirror (h .model) (g .attitude) (pull-is h k air) (pull-mirror h k air) (aero-mirror density h k l g air)
 
 -- ---- the step
-flight-mirror : {b b' : Body} (motors servos : List Float) → BodyRel b b' → FlightRel (flightOf b motors servos) (flightOf b' motors servos)
-unfolding flightOf
-flight-mirror motors servos h = record { position = h .position; velocity = h .velocity; attitude = h .attitude; rates = h .rates; motors = refl; servos = refl }
-
 stepped-mirror : {f f' : Flight} {l l' : Loaded} (m : FixedWingModel) (motors servos : List Float) (h : Float) → FlightRel f f' → LoadedRel l l' → TickedRel (steppedOf m f motors servos l h) (steppedOf m f' motors servos l' h)
 unfolding steppedOf
 stepped-mirror m motors servos h k l = record {
   report = record { answer = refl; alpha = l .alpha; beta = l .beta; thrust = l .thrust };
-  flight = flight-mirror motors servos (step-mirror (massOf m) h (body-mirror k) (l .loads));
+  flight = record { body = step-mirror (massOf m) h (k .body) (l .loads); motors = refl; servos = refl };
 }
 
 stepped-same : {f f' : Flight} {l l' : Loaded} (m m' : FixedWingModel) (motors motors' servos servos' : List Float) (h : Float) → m' ≡ m → motors' ≡ motors → servos' ≡ servos → FlightRel f f' → LoadedRel l l'
@@ -127,13 +118,11 @@ next-from-mirror : {a a' : Airframe} {f f' : Flight} {m m' : Motors} {s s' : Sur
     → TickedRel (nextFrom a f m s wind h) (nextFrom a' f' m' s' wind' h)
 unfolding nextFrom
 next-from-mirror {a} {a'} {f} {f'} {m} {m'} {s} {s'} step h k g l w =
-    stepped-same (a .model) (a' .model) (m .running) (m' .running) (s .running) (s' .running) step (h .model) (g .running) (l .running) k (loads-mirror airDensity h g l (body-mirror k) w)
+    stepped-same (a .model) (a' .model) (m .running) (m' .running) (s .running) (s' .running) step (h .model) (g .running) (l .running) k (loads-mirror airDensity h g l (k .body) w)
 
 spun-mirror : {a a' : Airframe} {f f' : Flight} (commands : List Float) (step : Float) → AirframeRel a a' → FlightRel f f' → MotorsRel (spunOf a f commands step) (spunOf a' f' commands step)
 unfolding spunOf
-spun-mirror {a} {a'} {f} {f'} commands step h k =
-    subst (λ (m : FixedWingModel). MotorsRel (spinOf (motorsFor a f) commands (factorOf step (a .model .«motor_time_constant_s»))) (spinOf (motorsFor a' f') commands (factorOf step (m .«motor_time_constant_s»)))) (sym (h .model))
-    (spin-mirror commands (factorOf step (a .model .«motor_time_constant_s»)) (motors-mirror h k))
+spun-mirror {a} commands step h k = rw (lag-factor-is step (h .motors)) (spin-mirror commands (lagFactor (a .motors) step) (motors-mirror h k))
 
 moved-mirror : {a a' : Airframe} {f f' : Flight} (commands : List Float) (step : Float) → AirframeRel a a' → FlightRel f f' → SurfacesRel (movedOf a f commands step) (movedOf a' f' commands step)
 unfolding movedOf
@@ -155,18 +144,18 @@ inside-is : {f f' : Flight} → FlightRel f f' → isInside f' ≡ isInside f
 unfolding isInside
 inside-is h = ap (λ (n : ℕ). eqb n 0) (outside-is h)
 
-kept-mirror : {f f' : Flight} {n n' : Ticked} → FlightRel f f' → TickedRel n n' → TickedRel (keptOf f n) (keptOf f' n')
-unfolding keptOf
-kept-mirror {f} {f'} {n} {n'} h k = by-test TickedRel (isInside (n .flight)) (isInside (n' .flight)) (inside-is (k .flight)) (λ t. k) (λ t. refused-mirror Departure h)
+unless-departed-mirror : {f f' : Flight} {n n' : Ticked} → FlightRel f f' → TickedRel n n' → TickedRel (unlessDeparted f n) (unlessDeparted f' n')
+unfolding unlessDeparted
+unless-departed-mirror {f} {f'} {n} {n'} h k = by-test TickedRel (isInside (n .flight)) (isInside (n' .flight)) (inside-is (k .flight)) (λ t. k) (λ t. refused-mirror Departure h)
 
-pub flown-mirror : {a a' : Airframe} {f f' : Flight} {t t' : Tick} → AirframeRel a a' → FlightRel f f' → TickRel t t' → TickedRel (flownOf a f t) (flownOf a' f' t')
-unfolding flownOf
-flown-mirror {a} {a'} {f} {f'} {t} {t'} h k w =
+pub accepted-mirror : {a a' : Airframe} {f f' : Flight} {t t' : Tick} → AirframeRel a a' → FlightRel f f' → TickRel t t' → TickedRel (acceptedTick a f t) (acceptedTick a' f' t')
+unfolding acceptedTick
+accepted-mirror {a} {a'} {f} {f'} {t} {t'} h k w =
     by-test TickedRel (isInside f) (isInside f') (inside-is k)
-    (λ u. by-test TickedRel (inside stepLeast stepMost (t .«step_s»)) (inside stepLeast stepMost (t' .«step_s»)) (ap (inside stepLeast stepMost) (w .step)) (λ v. kept-mirror k (next-mirror h k w)) (λ v. refused-mirror StepOutside k))
+    (λ u. by-test TickedRel (inside stepLeast stepMost (t .«step_s»)) (inside stepLeast stepMost (t' .«step_s»)) (ap (inside stepLeast stepMost) (w .step)) (λ v. unless-departed-mirror k (next-mirror h k w)) (λ v. refused-mirror StepOutside k))
     (λ u. refused-mirror StateOutside k)
 
 pub tick-mirror : {a a' : Airframe} {f f' : Flight} {t t' : Tick} → AirframeRel a a' → FlightRel f f' → TickRel t t' → TickedRel (tickOf a f t) (tickOf a' f' t')
 unfolding tickOf
 tick-mirror {a} {a'} h k w =
-    rw (refused-place-is h) (by-test TickedRel (eqb (refusedPlace a) 0) (eqb (refusedPlace a) 0) refl (λ u. flown-mirror h k w) (λ u. refused-mirror (NumberOutOfRange (refusedPlace a)) k))
+    rw (refused-place-is h) (by-test TickedRel (eqb (refusedPlace a) 0) (eqb (refusedPlace a) 0) refl (λ u. accepted-mirror h k w) (λ u. refused-mirror (NumberOutOfRange (refusedPlace a)) k))

@@ -1,11 +1,11 @@
 -- Where a tick leaves the running values, by the lag's rounding bound and not by test 9: of an accepted airframe and an accepted step, from motors in 0..1 and surfaces in -1..1, the next
 -- state's lie there again, and an unused motor runs as before. So test 9 never fires on a running value. Assumes nothing.
 use Prim.Native.Nat.{_<_, ℕ}
-use lib.Dec.{T, eqb}
-use lib.Ieee.{Float, binary32, fits, nan}
+use lib.Dec.{eqb}
+use lib.Ieee.{Float, nan}
 use mathlib.Core.Bool.{Bool, cond, false, true}
 use mathlib.Core.List.{[]}
-use mathlib.Core.Path.{_∙_, _≡_, refl, subst, sym}
+use mathlib.Core.Path.{_≡_, refl, subst, sym}
 use native.Mathlib.Omega.{arith}
 use Rattle.airframe.proofs.Range.{motor-constant-in, servo-constant-in}
 use Rattle.airframe.specs.Acceptance.{refusedPlace}
@@ -16,68 +16,73 @@ use Rattle.flight.proofs.Range.{motor-within, servo-within}
 use Rattle.flight.specs.Envelope.{isInside, outsideOf, slotInside, slotsOutside}
 use Rattle.flight.specs.declared.Flight.{Flight}
 use Rattle.flight.specs.declared.Tick.{Tick}
-use Rattle.float.proofs.Ordered.{inside-within, none-fails, within-inside}
+use Rattle.float.proofs.Bounds.{inside-within, within-inside}
+use Rattle.ordered.proofs.Ordered.{none-fails}
 use Rattle.float.specs.Interval.{Within, inside}
 use Rattle.float.specs.Notation.{minusOne, nought, one}
 use Rattle.lag.proofs.Range.{factor-in}
 use Rattle.lag.specs.Lag.{factorOf, stepLeast, stepMost}
 use Rattle.mixers.proofs.Slots.{slots-at}
 use Rattle.mixers.specs.Slots.{at}
-use Rattle.motors.proofs.Range.{spin-fits, spin-in, spin-still}
-use Rattle.motors.specs.Motor.{spinAt, spinOf}
+use Rattle.motors.proofs.Range as Group
+use Rattle.motors.proofs.Range.{spin-held, spin-leaves, spin-running, still-same}
+use Rattle.motors.specs.Motor.{lagFactor, spinOf}
 use Rattle.surfaces.proofs.Range.{move-in}
 use Rattle.surfaces.specs.Surface.{moveAt, moveTo}
 use Rattle.wing.specs.Loads.{motorsFor, surfacesFor}
-use Rattle.wing.specs.Running.{Held, Running, Still}
-use Rattle.wing.specs.Tick.{flightOf, flownOf, keptOf, movedOf, nextFrom, nextOf, refusedOf, spunOf, steppedOf, tickOf}
+use Rattle.wing.proofs.Running.{Held, Running, Still}
+use Rattle.wing.specs.Tick.{acceptedTick, unlessDeparted, movedOf, nextFrom, nextOf, refusedOf, spunOf, steppedOf, tickOf}
 use Rattle.wing.specs.declared.Ticked.{Ticked}
 
--- ---- a slot of the next state
-next-motor : (a : Airframe) (f : Flight) (t : Tick) (k : ℕ) → k < 8 → at (nextOf a f t .flight .motors) k ≡ spinAt (motorsFor a f) (t .motors) (factorOf (t .«step_s») (a .model .«motor_time_constant_s»)) k
-unfolding nextOf nextFrom steppedOf flightOf spunOf spinOf
-next-motor a f t k l = slots-at nan (spinAt (motorsFor a f) (t .motors) (factorOf (t .«step_s») (a .model .«motor_time_constant_s»))) [] k l
+-- ---- the next state
+next-motors : (a : Airframe) (f : Flight) (t : Tick)
+    → nextOf a f t .flight .motors ≡ spinOf (motorsFor a f) (t .motors) (lagFactor (a .motors) (t .«step_s»)) .running
+unfolding nextOf nextFrom steppedOf spunOf
+next-motors a f t = refl
 
-next-servo : (a : Airframe) (f : Flight) (t : Tick) (k : ℕ) → k < 8 → at (nextOf a f t .flight .servos) k ≡ moveAt (surfacesFor a f) (t .servos) (factorOf (t .«step_s») (a .model .«servo_time_constant_s»)) k
-unfolding nextOf nextFrom steppedOf flightOf movedOf moveTo
+next-servo : (a : Airframe) (f : Flight) (t : Tick) (k : ℕ) → k < 8
+    → at (nextOf a f t .flight .servos) k ≡ moveAt (surfacesFor a f) (t .servos) (factorOf (t .«step_s») (a .model .«servo_time_constant_s»)) k
+unfolding nextOf nextFrom steppedOf movedOf moveTo
 next-servo a f t k l = slots-at nan (moveAt (surfacesFor a f) (t .servos) (factorOf (t .«step_s») (a .model .«servo_time_constant_s»))) [] k l
 
 module _ (a : Airframe) (f : Flight) (t : Tick) where
   pub next-running : refusedPlace a ≡ 0 → inside stepLeast stepMost (t .«step_s») ≡ true → Held f → Running f → Running (nextOf a f t .flight)
-  unfolding motorsFor surfacesFor
+  unfolding motorsFor surfacesFor lagFactor
   next-running e s g r = record {
-    motor = λ k l. subst (λ (x : Float). Within nought one x) (sym (next-motor a f t k l)) (spin-in (motorsFor a f) (t .motors) _ k (g .motor k l) (r .motor k l) (factor-in _ _ (inside-within s) (motor-constant-in a e)));
+    motors = subst Group.Running (sym (next-motors a f t))
+        (spin-running (motorsFor a f) (t .motors) _ (g .motors) (r .motors) (factor-in _ _ (inside-within s) (motor-constant-in a e)));
     servo = λ k l. subst (λ (x : Float). Within minusOne one x) (sym (next-servo a f t k l)) (move-in (surfacesFor a f) (t .servos) _ k (r .servo k l) (factor-in _ _ (inside-within s) (servo-constant-in a e)));
   }
 
-  pub next-still : Still (a .used) f (nextOf a f t .flight)
+  pub next-still : Still a f (nextOf a f t .flight)
   unfolding motorsFor
-  next-still = record { motor = λ k l u. next-motor a f t k l ∙ spin-still (motorsFor a f) (t .motors) _ k u }
+  next-still = record { motors = subst (Group.Still (a .motors .used) (f .motors)) (sym (next-motors a f t)) (spin-leaves (motorsFor a f) (t .motors) _) }
 
   pub next-held : Held f → Held (nextOf a f t .flight)
   unfolding motorsFor
-  next-held g = record { motor = λ k l. subst (λ (x : Float). T (fits binary32 x)) (sym (next-motor a f t k l)) (spin-fits (motorsFor a f) (t .motors) _ k (g .motor k l)) }
+  next-held g = record { motors = subst Group.Held (sym (next-motors a f t)) (spin-held (motorsFor a f) (t .motors) _ (g .motors)) }
 
 -- so the tests of the running values, the envelope's last, pass: 9 never fires on one
 pub running-inside : (f : Flight) → Running f → (slotsOutside nought one (f .motors) ≡ 0) × (slotsOutside minusOne one (f .servos) ≡ 0)
 unfolding slotsOutside slotInside
-running-inside f r = (none-fails _ 0 8 (λ k l. within-inside (r .motor k (omega (arith, l)))), none-fails _ 0 8 (λ k l. within-inside (r .servo k (omega (arith, l)))))
+running-inside f r = (none-fails _ 0 8 (λ k l. within-inside (r .motors .motor k (omega (arith, l)))), none-fails _ 0 8 (λ k l. within-inside (r .servo k (omega (arith, l)))))
 
 -- ---- a tick, refused or not
 pub record Keeps (a : Airframe) (f : Flight) (r : Ticked) : Type 0 where
   pub running : Running (r .flight)
-  pub still : Still (a .used) f (r .flight)
+  pub still : Still a f (r .flight)
   pub held : Held (r .flight)
 
 keeps-refused : (a : Airframe) (f : Flight) (x : Answer) → Held f → Running f → Keeps a f (refusedOf x f)
 unfolding refusedOf
-keeps-refused a f x g r = record { running = r; still = record { motor = λ k l u. refl }; held = g }
+keeps-refused a f x g r = record { running = r; still = record { motors = still-same _ _ }; held = g }
 
 by-cases : {X : Type 0} (P : X → Type 0) {x y : X} (b : Bool) → (b ≡ true → P x) → P y → P (cond b x y)
 by-cases P true h k = h refl
 by-cases P false h k = k
 
 pub tick-keeps : (a : Airframe) (f : Flight) (t : Tick) → refusedPlace a ≡ 0 → Held f → Running f → Keeps a f (tickOf a f t)
-unfolding tickOf flownOf keptOf
+unfolding tickOf acceptedTick unlessDeparted
 tick-keeps a f t e g r =
     by-cases (Keeps a f) (eqb (refusedPlace a) 0)
     (λ i. by-cases (Keeps a f) (isInside f)
@@ -89,4 +94,4 @@ tick-keeps a f t e g r =
 
 -- ---- an accepted state is in its ranges
 pub accepted-running : (f : Flight) → outsideOf f ≡ 0 → Running f
-accepted-running f e = record { motor = λ k l. motor-within f e k l; servo = λ k l. servo-within f e k l }
+accepted-running f e = record { motors = record { motor = λ k l. motor-within f e k l }; servo = λ k l. servo-within f e k l }

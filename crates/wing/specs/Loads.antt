@@ -22,21 +22,12 @@ use Rattle.vector.specs.declared.Quaternion.{Quaternion}
 use Rattle.vector.specs.declared.Vec3.{Vec3}
 use Rattle.wing.specs.declared.Loaded.{Loaded}
 
--- the airframe's motors and surfaces at the state's running values, and the state's body
+-- the airframe's motors and surfaces at the state's running values
 unfoldable pub motorsFor : Airframe → Flight → Motors
-motorsFor a f = record {
-  «max_thrust_n» = a .model .«max_thrust_n»;
-  «thrust_exponent» = a .model .«thrust_exponent»;
-  used = a .used;
-  «torque_per_thrust_m» = a .«torque_per_thrust_m»;
-  running = f .motors;
-}
+motorsFor a f = record { group = a .motors; running = f .motors }
 
 unfoldable pub surfacesFor : Airframe → Flight → Surfaces
 surfacesFor a f = record { weights = a .weights; running = f .servos }
-
-unfoldable pub bodyOf : Flight → Body
-bodyOf f = record { «position_ned_m» = f .«position_ned_m»; «velocity_ned_mps» = f .«velocity_ned_mps»; attitude = f .attitude; «angular_velocity_radps» = f .«angular_velocity_radps» }
 
 -- the velocity through the air, on body axes
 unfoldable pub airOf : Body → Vec3 → Vec3
@@ -47,11 +38,12 @@ unfoldable pub washFor : Airframe → Float → Float → Float → Wash
 washFor a thrust axial density = cond (a .«wash_present») (washOf (a .wash) thrust axial density) noWash
 
 -- thrust along body x, below the center of gravity by the thrust line; the force on world axes
-unfoldable pub loadedOf : FixedWingModel → Quaternion → MotorWrench → Aero → Loaded
-loadedOf m q pull aero = record {
+unfoldable pub withThrust : FixedWingModel → Quaternion → MotorWrench → Aero → Loaded
+withThrust m q pull aero = record {
   loads = record {
     «force_ned_n» = rotateOf q (addOf (aero .«force_n») (vec (pull .«thrust_n») nought nought));
-    «torque_nm» = addOf (addOf (aero .«torque_nm») (pull .«torque_nm»)) (vec nought (pull .«thrust_n» ⊗ m .«thrust_line_below_cg_m») nought);
+    «torque_nm» =
+        addOf (addOf (aero .«torque_nm») (pull .«torque_nm»)) (vec nought (pull .«thrust_n» ⊗ m .«thrust_line_below_cg_m») nought);
     «damping_nm» = zeroVec;
   };
   «alpha_rad» = aero .«alpha_rad»;
@@ -65,8 +57,11 @@ pullOf m motors air = wrenchWith motors (m .«thrust_falloff») (air .x)
 
 unfoldable pub aeroOf : Airframe → Motors → Surfaces → Body → Vec3 → Float → Aero
 aeroOf a motors surfaces b air density =
-    wrenchOf (a .model) air (b .«angular_velocity_radps») (deflectionRad surfaces (a .model .«max_deflection_rad»)) (washFor a (pullOf (a .model) motors air .«thrust_n») (air .x) density) density
+    wrenchOf (a .model) air (b .«angular_velocity_radps»)
+    (deflectionRad surfaces (a .model .«max_deflection_rad»))
+    (washFor a (pullOf (a .model) motors air .«thrust_n») (air .x) density)
+    density
 
 unfoldable pub loadsOf : Airframe → Motors → Surfaces → Body → Vec3 → Float → Loaded
 loadsOf a motors surfaces b wind density =
-    loadedOf (a .model) (b .attitude) (pullOf (a .model) motors (airOf b wind)) (aeroOf a motors surfaces b (airOf b wind) density)
+    withThrust (a .model) (b .attitude) (pullOf (a .model) motors (airOf b wind)) (aeroOf a motors surfaces b (airOf b wind) density)

@@ -3,6 +3,7 @@
 ghost use mathlib.Core.Bool.{true};
 ghost use mathlib.Core.Path.{_≡_};
 ghost use Rattle.flight.specs.Envelope.{isInside};
+ghost use Rattle.wing.specs.Contracts as Contracts;
 ghost use Rattle.wing.specs.Loads as LoadsOf;
 ghost use Rattle.wing.specs.Tick as TickOf;
 use airframe::Airframe;
@@ -56,28 +57,28 @@ pub fn tick(a: Airframe, f: Flight, t: Tick) -> Ticked
 {
     let place = a.refused_place();
     if place == 0 {
-        return flown(a, f, t);
+        return tick_accepted(a, f, t);
     }
     refused(Answer::NumberOutOfRange(place), f)
 }
 
 // One tick of an airframe that is accepted: the tests 7, 8 and 9.
-pub fn flown(a: Airframe, f: Flight, t: Tick) -> Ticked
-    ensures { λ r. ⌜ r ≡ TickOf.flownOf a f t ⌝ }
+pub fn tick_accepted(a: Airframe, f: Flight, t: Tick) -> Ticked
+    ensures { λ r. ⌜ r ≡ TickOf.acceptedTick a f t ⌝ }
 {
     if f.is_inside() {
-        return flown_on(a, f, t, lags(a, t.step_s));
+        return tick_inside(a, f, t, begin(a, t.step_s));
     }
     refused(Answer::StateOutside, f)
 }
 
 // The same from a state inside the envelope, with the lag factors of the tick's step: the tests 8 and 9.
-pub fn flown_on(a: Airframe, f: Flight, t: Tick, lags: LagFactors) -> Ticked
-    requires { ⌜ isInside f ≡ true ⌝ ∗ ⌜ lags ≡ TickOf.lagsOf a (t .«step_s») ⌝ }
-    ensures { λ r. ⌜ r ≡ TickOf.flownOf a f t ⌝ }
+pub fn tick_inside(a: Airframe, f: Flight, t: Tick, lags: LagFactors) -> Ticked
+    requires { ⌜ isInside f ≡ true ⌝ ∗ ⌜ lags ≡ Contracts.beginOf a (t .«step_s») ⌝ }
+    ensures { λ r. ⌜ r ≡ TickOf.acceptedTick a f t ⌝ }
 {
     if float::inside(t.step_s, 0.0009765625, 0.02) {
-        return kept(f, next_by(a, f, t, lags));
+        return unless_departed(f, next_with(a, f, t, lags));
     }
     refused(Answer::StepOutside, f)
 }
@@ -96,8 +97,8 @@ pub fn refused(answer: Answer, f: Flight) -> Ticked
 }
 
 // The next state where it is inside the envelope; else a departure from `f`.
-fn kept(f: Flight, n: Ticked) -> Ticked
-    ensures { λ r. ⌜ r ≡ TickOf.keptOf f n ⌝ }
+fn unless_departed(f: Flight, n: Ticked) -> Ticked
+    ensures { λ r. ⌜ r ≡ TickOf.unlessDeparted f n ⌝ }
 {
     let g = n.flight;
     if g.is_inside() {
@@ -107,38 +108,39 @@ fn kept(f: Flight, n: Ticked) -> Ticked
 }
 
 // The lag factors of a step.
-pub fn lags(a: Airframe, step_s: f32) -> LagFactors
-    ensures { λ r. ⌜ r ≡ TickOf.lagsOf a «step_s» ⌝ }
+pub fn begin(a: Airframe, step_s: f32) -> LagFactors
+    ensures { λ r. ⌜ r ≡ Contracts.beginOf a «step_s» ⌝ }
 {
     let m = a.model;
+    let motors = a.motors;
     LagFactors {
         step_bits: float::to_bits(step_s),
-        motor: lag::factor(step_s, m.motor_time_constant_s),
+        motor: motors.lag_factor(step_s),
         servo: lag::factor(step_s, m.servo_time_constant_s),
     }
 }
 
 // The lag factors of a step, `held` being those of the last one: a step with the same bits has the same.
-pub fn lags_after(a: Airframe, held: LagFactors, step_s: f32) -> LagFactors
-    requires { ⌜ TickOf.Kept a held ⌝ }
-    ensures { λ r. ⌜ r ≡ TickOf.lagsOf a «step_s» ⌝ ∗ ⌜ TickOf.Kept a r ⌝ }
+pub fn begin_after(a: Airframe, held: LagFactors, step_s: f32) -> LagFactors
+    requires { ⌜ Contracts.OfTheirStep a held ⌝ }
+    ensures { λ r. ⌜ r ≡ Contracts.beginOf a «step_s» ⌝ ∗ ⌜ Contracts.OfTheirStep a r ⌝ }
 {
     if float::to_bits(step_s) == held.step_bits {
         return held;
     }
-    lags(a, step_s)
+    begin(a, step_s)
 }
 
 // The next state and its report, whatever the tests say.
 pub fn next(a: Airframe, f: Flight, t: Tick) -> Ticked
     ensures { λ r. ⌜ r ≡ TickOf.nextOf a f t ⌝ }
 {
-    next_by(a, f, t, lags(a, t.step_s))
+    next_with(a, f, t, begin(a, t.step_s))
 }
 
 // The same with the lag factors handed in.
-fn next_by(a: Airframe, f: Flight, t: Tick, lags: LagFactors) -> Ticked
-    requires { ⌜ lags ≡ TickOf.lagsOf a (t .«step_s») ⌝ }
+fn next_with(a: Airframe, f: Flight, t: Tick, lags: LagFactors) -> Ticked
+    requires { ⌜ lags ≡ Contracts.beginOf a (t .«step_s») ⌝ }
     ensures { λ r. ⌜ r ≡ TickOf.nextOf a f t ⌝ }
 {
     let commands = t.motors;
@@ -149,7 +151,7 @@ fn next_by(a: Airframe, f: Flight, t: Tick, lags: LagFactors) -> Ticked
         a,
         motors,
         surfaces,
-        body_of(f),
+        f.body,
         t.wind_ned_mps,
         AIR_DENSITY_KGPM3,
     );
@@ -162,17 +164,9 @@ fn next_by(a: Airframe, f: Flight, t: Tick, lags: LagFactors) -> Ticked
 fn motors_of(a: Airframe, f: Flight) -> Motors
     ensures { λ r. ⌜ r ≡ LoadsOf.motorsFor a f ⌝ }
 {
-    let m = a.model;
-    let used = a.used;
-    let torque_per_thrust_m = a.torque_per_thrust_m;
+    let group = a.motors;
     let running = f.motors;
-    Motors {
-        max_thrust_n: m.max_thrust_n,
-        thrust_exponent: m.thrust_exponent,
-        used,
-        torque_per_thrust_m,
-        running,
-    }
+    Motors { group, running }
 }
 
 // The airframe's surfaces at the state's running values.
@@ -182,22 +176,6 @@ fn surfaces_of(a: Airframe, f: Flight) -> Surfaces
     let weights = a.weights;
     let running = f.servos;
     Surfaces { weights, running }
-}
-
-// The state's rigid body.
-fn body_of(f: Flight) -> Body
-    ensures { λ r. ⌜ r ≡ LoadsOf.bodyOf f ⌝ }
-{
-    let position_ned_m = f.position_ned_m;
-    let velocity_ned_mps = f.velocity_ned_mps;
-    let attitude = f.attitude;
-    let angular_velocity_radps = f.angular_velocity_radps;
-    Body {
-        position_ned_m,
-        velocity_ned_mps,
-        attitude,
-        angular_velocity_radps,
-    }
 }
 
 // The loads from the running values alone, in air of `density_kgpm3`.
@@ -228,7 +206,7 @@ pub fn loads(
         wash,
         density_kgpm3,
     );
-    together(m, attitude, pull, aero)
+    with_thrust(m, attitude, pull, aero)
 }
 
 // The prop wash; none where the airframe has none.
@@ -242,14 +220,14 @@ fn wash_of(a: Airframe, thrust_n: f32, axial_mps: f32, density_kgpm3: f32) -> Wa
     tailsitter_model::no_wash()
 }
 
-// Aerodynamics and thrust together: the thrust axis is body x, and runs below the center of gravity.
-fn together(
+// The aerodynamics with the thrust: its axis is body x, and runs below the center of gravity.
+fn with_thrust(
     m: FixedWingModel,
     attitude: vector::Quaternion,
     pull: motors::MotorWrench,
     aero: aero::Aero,
 ) -> Loaded
-    ensures { λ r. ⌜ r ≡ LoadsOf.loadedOf m attitude pull aero ⌝ }
+    ensures { λ r. ⌜ r ≡ LoadsOf.withThrust m attitude pull aero ⌝ }
 {
     let force = aero.force_n;
     let torque = aero.torque_nm;
@@ -286,16 +264,10 @@ fn stepped(
         mass_kg: m.mass_kg,
         inertia_kgm2,
     };
-    let b = body_of(f).step(mass, loaded.loads, step_s);
-    let position_ned_m = b.position_ned_m;
-    let velocity_ned_mps = b.velocity_ned_mps;
-    let attitude = b.attitude;
-    let angular_velocity_radps = b.angular_velocity_radps;
+    let before = f.body;
+    let body = before.step(mass, loaded.loads, step_s);
     let flight = Flight {
-        position_ned_m,
-        velocity_ned_mps,
-        attitude,
-        angular_velocity_radps,
+        body,
         motors,
         servos,
     };

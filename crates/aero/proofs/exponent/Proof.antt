@@ -1,5 +1,5 @@
 -- `aero::exponent` meets its contract. Assumes nothing.
-use lib.Ieee.{neg, ofBits}
+use lib.Ieee.{neg, ofBits, round}
 use borrow.Author.Needs.{needs}
 use Rattle.aero.specs.Coefficients.{exponent}
 use Rattle.aero.proofs.exponent.Statement.{statement}
@@ -12,7 +12,7 @@ expf-requires : tie.Need-expf-requires
 expf-requires c κs = search needs
 
 returns : tie.Need-returns
-unfolding exponent ofBits neg
+unfolding exponent ofBits neg round
 returns c = simp (c .expf .ensures, c .before .clamp .ensures)
 
 pub exponent-spec : {M : Type 1} → statement M

@@ -1,6 +1,6 @@
 -- `airframe::vectors_outside` meets its contract. Assumes nothing.
 use Rattle.airframe.specs.Acceptance.{vectorsOutside}
-use Rattle.float.proofs.Ordered.{pass-none, pass-some, some-eqb}
+use Rattle.ordered.proofs.Ordered.{pass-none, pass-some, some-eqb}
 use mathlib.Core.Path.{_∙_, sym}
 use borrow.Author.Needs.{needs}
 use Rattle.airframe.proofs.vectors_outside.Statement.{statement}

@@ -1,11 +1,14 @@
 -- `airframe_block::airframe_by` meets its contract: what the lent list of rows fills is what the array form fills. Assumes nothing.
 use borrow.Author.Needs.{needs}
-use Rattle.airframe_block.specs.Block.{airframeBy, airframeOf}
+use Rattle.airframe_block.specs.Block.{airframeBy}
 use Rattle.airframe_block.proofs.airframe_by.Statement.{statement}
 use Rattle.airframe_block.proofs.airframe_by.Tie as tie
 
 layout-of-requires : tie.Need-layout-of-requires
 layout-of-requires c κs = search needs
+
+array-read-mixed : tie.Need-array-read-mixed
+array-read-mixed c = search needs
 
 mixed-requires : tie.Need-mixed-requires
 mixed-requires c κs = search needs
@@ -16,31 +19,31 @@ surfaces-requires c κs = search needs
 model-of-requires : tie.Need-model-of-requires
 model-of-requires c κs = search needs
 
-wash-of-requires : tie.Need-wash-of-requires
-wash-of-requires c κs = search needs
-
-array-read-t17 : tie.Need-array-read-t17
-array-read-t17 c = search needs
-
-array-read-t20 : tie.Need-array-read-t20
-array-read-t20 c = search needs
+wash-from-requires : tie.Need-wash-from-requires
+wash-from-requires c κs = search needs
 
 returns : tie.Need-returns
-unfolding airframeBy airframeOf
+unfolding airframeBy
 returns c =
-    let washed = c .before .before .before .before in
+    let washed = c .before in
     let filled = washed .before .before .before .before in
-    simp (washed .wash-of .ensures, washed .before .model-of .ensures, washed .before .before .surfaces .ensures, filled .mixed .ensures .1 .0, filled .mixed .ensures .1 .1, filled .before .layout-of .ensures)
+    simp (
+      washed .wash-from .ensures,
+      washed .before .model-of .ensures,
+      washed .before .before .surfaces .ensures,
+      filled .mixed .ensures .1 .0,
+      filled .mixed .ensures .1 .1,
+      filled .before .layout-of .ensures,
+    )
 
 pub airframe-by-spec : {M : Type 1} → statement M
 airframe-by-spec =
     tie.close
     (tie.spec
     layout-of-requires
+    array-read-mixed
     mixed-requires
     surfaces-requires
     model-of-requires
-    wash-of-requires
-    array-read-t17
-    array-read-t20
+    wash-from-requires
     returns)

@@ -2,8 +2,8 @@
 use Prim.Native.Nat.{_-_, _≤_}
 use mathlib.Core.Path.{_∙_, _≡_, ap, sym}
 use borrow.Author.Needs.{needs}
-use Rattle.float.proofs.Ordered.{fail-end, fail-here, fail-next, from-start, not-false, not-true}
-use Rattle.float.specs.Ordered.{firstFail}
+use Rattle.ordered.proofs.Ordered.{fail-end, fail-here, fail-next, from-start, not-false, not-true}
+use Rattle.ordered.specs.Ordered.{firstFail}
 use Rattle.airframe_block.specs.Block.{badRow, rowFitsAt}
 use Rattle.airframe_block.proofs.bad_row.Statement.{statement}
 use Rattle.airframe_block.proofs.bad_row.Tie as tie

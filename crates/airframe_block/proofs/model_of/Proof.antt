@@ -55,15 +55,6 @@ array-read-t37 c = search needs
 array-read-t40 : tie.Need-array-read-t40
 array-read-t40 c = search needs
 
-array-read-t43 : tie.Need-array-read-t43
-array-read-t43 c = search needs
-
-array-read-t46 : tie.Need-array-read-t46
-array-read-t46 c = search needs
-
-array-read-t49 : tie.Need-array-read-t49
-array-read-t49 c = search needs
-
 returns : tie.Need-returns
 unfolding modelOf
 returns c = simp (c .falloff-of .ensures, c .before .new2 .ensures, c .before .before .new .ensures, c .before .before .before .coefficients-of .ensures)
@@ -89,7 +80,4 @@ model-of-spec =
     array-read-t34
     array-read-t37
     array-read-t40
-    array-read-t43
-    array-read-t46
-    array-read-t49
     returns)

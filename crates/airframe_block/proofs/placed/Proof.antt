@@ -1,13 +1,13 @@
 -- `airframe_block::placed` meets its contract. Assumes nothing.
-use mathlib.Core.Path.{_∙_, ap, ap₂}
+use Prim.Native.Nat.{ℕ}
+use lib.Dec.{eqb}
+use mathlib.Core.Path.{_∙_, ap}
 use borrow.Author.Needs.{needs}
+use Rattle.airframe.specs.Acceptance.{lowestPlace}
+use Rattle.airframe_block.specs.Block.{acceptedAirframe, placedAirframe, testedAirframe}
 use Rattle.airframe_block.proofs.Order.{place-accepted, place-refused}
-use Rattle.airframe_block.specs.Block.{acceptedAirframe, lowestPlace, placedAirframe, testedAirframe}
 use Rattle.airframe_block.proofs.placed.Statement.{statement}
 use Rattle.airframe_block.proofs.placed.Tie as tie
-
-refused-place-requires : tie.Need-refused-place-requires
-refused-place-requires c κs = search needs
 
 bad-row-requires : tie.Need-bad-row-requires
 bad-row-requires c κs = search needs
@@ -22,21 +22,16 @@ returns : tie.Need-returns
 unfolding placedAirframe
 returns c =
     let l = c .before .before in
-    c .refused .ensures ∙ place-refused _ (l .lowest-place .result) (c .before .if1 .taken) ∙ ap (testedAirframe _) (l .lowest-place .ensures ∙ ap₂ lowestPlace (l .before .before .refused-place .ensures) (l .before .bad-row .ensures))
+    c .refused .ensures ∙ place-refused _ (l .lowest-place .result) (c .before .if1 .taken)
+    ∙ ap (testedAirframe _) (l .lowest-place .ensures ∙ ap (λ (b : ℕ). lowestPlace (eqb b 0) (l .before .before .args .airframe)) (l .before .bad-row .ensures))
 
 returns-2 : tie.Need-returns-2
 unfolding placedAirframe acceptedAirframe
 returns-2 c =
     let l = c .before in
-    place-accepted _ (l .lowest-place .result) (c .if1 .left) ∙ ap (testedAirframe _) (l .lowest-place .ensures ∙ ap₂ lowestPlace (l .before .before .refused-place .ensures) (l .before .bad-row .ensures))
+    place-accepted _ (l .lowest-place .result) (c .if1 .left)
+    ∙ ap (testedAirframe _) (l .lowest-place .ensures ∙ ap (λ (b : ℕ). lowestPlace (eqb b 0) (l .before .before .args .airframe)) (l .before .bad-row .ensures))
 
 pub placed-spec : {M : Type 1} → statement M
 placed-spec =
-    tie.close
-    (tie.spec
-    refused-place-requires
-    bad-row-requires
-    lowest-place-requires
-    refused-requires
-    returns
-    returns-2)
+    tie.close (tie.spec bad-row-requires lowest-place-requires refused-requires returns returns-2)

@@ -76,7 +76,7 @@ returns-6 c =
 read-body-requires : tie.Need-read-body-requires
 read-body-requires c κs =
     let h = c .before .before .before .before .before .before .before .before .before .before in
-    (small-header _ _ _ (h .header-of .ensures) .0, (c .before .before .if5 .left, omega (arith, c .if6 .left, c .before .bytes .ensures)))
+    (c .before .before .if5 .left, omega (arith, c .if6 .left, c .before .bytes .ensures))
 
 returns-7 : tie.Need-returns-7
 unfolding readBy

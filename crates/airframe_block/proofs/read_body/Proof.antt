@@ -3,7 +3,7 @@ use mathlib.Core.Path.{_∙_, ap, ap₂, sym}
 use native.Mathlib.Omega.{arith}
 use borrow.Author.Needs.{needs}
 use Rattle.airframe_block.proofs.Order.{body-read, body-refused}
-use Rattle.airframe_block.specs.Block.{airframeBy, bytesOf, numberCount, numbersFrom, placedAirframe, readRows, reservedRow, rowsAt, rowsFrom}
+use Rattle.airframe_block.specs.Block.{airframeBy, bytesOf, placedAirframe, readRows, reservedRow, rowsFrom}
 use Rattle.airframe_block.proofs.read_body.Statement.{statement}
 use Rattle.airframe_block.proofs.read_body.Tie as tie
 
@@ -27,12 +27,9 @@ read-rows-requires : tie.Need-read-rows-requires
 unfolding bytesOf
 read-rows-requires c κs = (omega arith, omega arith)
 
-number-count-requires : tie.Need-number-count-requires
-number-count-requires c κs = search needs
-
 read-numbers-requires : tie.Need-read-numbers-requires
-unfolding bytesOf rowsAt numberCount
-read-numbers-requires c κs = (omega arith, omega arith)
+unfolding bytesOf
+read-numbers-requires c κs = omega arith
 
 airframe-by-requires : tie.Need-airframe-by-requires
 airframe-by-requires c κs = search needs
@@ -43,12 +40,12 @@ placed-requires c κs = search needs
 returns-2 : tie.Need-returns-2
 unfolding readRows
 returns-2 c =
-    let r = c .before .before .before .before in
+    let r = c .before .before .before in
     let b = r .before .before in
     let a = b .before .before .before .args in
     let n = c .before .before in
     let rows = r .read-rows .ensures ∙ ap (λ z. rowsFrom (a .s .now) z (a .h .rows)) (b .before .rows-at .ensures .0) in
-    let numbers = n .read-numbers .ensures ∙ ap (numbersFrom (a .s .now)) (n .before .number-count .ensures .0) in
+    let numbers = n .read-numbers .ensures in
     c .placed .ensures
     ∙ ap₂ placedAirframe (c .before .airframe-by .ensures ∙ ap₂ (λ x y. airframeBy x (a .h) y) numbers rows) rows
     ∙ body-read (a .s .now) (a .h) (sym (b .reserved-row .ensures ∙ ap (λ z. reservedRow (a .s .now) z (a .h .rows)) (b .before .rows-at .ensures .0)) ∙ r .before .if1 .left)
@@ -62,7 +59,6 @@ read-body-spec =
     refused-requires
     returns
     read-rows-requires
-    number-count-requires
     read-numbers-requires
     airframe-by-requires
     placed-requires

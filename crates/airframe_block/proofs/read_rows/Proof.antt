@@ -1,25 +1,26 @@
 -- `airframe_block::read_rows` meets its contract. Assumes nothing.
 use Prim.Native.Nat.{_-_, _≤_}
 use lib.Ieee.{ofBits}
-use lib.ListN.{getD-replicate}
-use mathlib.Core.Path.{_∙_}
-use native.Mathlib.Omega.{arith}
+use mathlib.Core.List.{List}
+use mathlib.Core.Path.{_∙_, _≡_, ap, refl}
+use native.Mathlib.Nat.{le-antisymm}
 use borrow.Author.Needs.{needs}
-use borrow.Author.Tests.{lt-ltb, le-ltb}
-use Rattle.mixers.specs.Rows.{noRow}
-use Rattle.mixers.proofs.Filling.{Reached, reach-end, reach-more, reach-start}
-use Rattle.airframe_block.specs.Block.{emptyRow, rowOr, rowsFrom}
+use Rattle.mixers.specs.Rows.{mostRows}
+use Rattle.mixers.specs.declared.MixRow.{MixRow}
+use Rattle.airframe_block.specs.Block.{putRows, rowsFrom}
+use Rattle.airframe_block.proofs.Segments.{rows-more}
 use Rattle.airframe_block.proofs.read_rows.Statement.{statement}
 use Rattle.airframe_block.proofs.read_rows.Tie as tie
 
 abbrev Inv-loop : tie.InvT-loop
-Inv-loop s start count rows₀ k₀ rows k = Reached 16 noRow (rowOr s start count) rows₀ rows k × (k ≤ count)
+Inv-loop s start count rows₀ k₀ rows k = (k ≤ count) × (count ≤ mostRows) × (rows ≡ putRows s start rows₀ k)
 
 abbrev μ-loop : tie.MeasureT-loop
 μ-loop s start count rows₀ k₀ rows k = count - k
 
 loop-holds : tie.Need-loop-holds Inv-loop μ-loop
-loop-holds c = (reach-start _ _ _ _ (search needs), search needs)
+unfolding putRows
+loop-holds c = (search needs, search needs, refl)
 
 mul-read-row : tie.Need-mul-read-row Inv-loop μ-loop
 mul-read-row c = search needs
@@ -43,17 +44,16 @@ loop-less : tie.Need-loop-less Inv-loop μ-loop
 loop-less c = search needs
 
 loop-again : tie.Need-loop-again Inv-loop μ-loop
-unfolding rowOr
 loop-again c =
     let s = c .before .before in
-    let t = c .before .loop-test .taken in
-    (reach-more 16 noRow _ _ (s .loop .rows) (s .loop .k) (c .read-row .result) (c .read-row .ensures ∙ simp (lt-ltb _ _ t)) (omega (arith, t)) (s .loop .inv .0), search needs)
+    (search needs, search needs, rows-more _ _ _ (s .loop .k) (s .loop .rows) (c .read-row .result) (s .loop .inv .2) (c .read-row .ensures))
 
 returns : tie.Need-returns Inv-loop μ-loop
-unfolding rowsFrom rowOr ofBits
+unfolding rowsFrom ofBits
 returns c =
     let s = c .before in
-    rw (reach-end 16 noRow _ _ (s .loop .rows) (s .loop .k) (s .loop .inv .0) (λ k l m. getD-replicate 16 k emptyRow noRow m ∙ simp (le-ltb k (s .before .before .args .count) (omega (arith, l, c .loop-test .left)))))
+    let e = s .loop .inv .2 ∙ ap (putRows _ _ _) (le-antisymm (s .loop .inv .0) (c .loop-test .left)) in
+    ap (λ (rows : List MixRow). record { rows = rows; count = s .before .before .args .count }) e
 
 pub read-rows-spec : {M : Type 1} → statement M
 read-rows-spec =

@@ -3,8 +3,8 @@ use Prim.Native.Nat.{_-_, _≤_}
 use mathlib.Core.Path.{_∙_, _≡_, sym}
 use borrow.Author.Needs.{needs}
 use borrow.Author.Tests.{eq-eqb, ne-eqb}
-use Rattle.float.proofs.Ordered.{fail-end, fail-here, fail-next, from-start}
-use Rattle.float.specs.Ordered.{firstFail}
+use Rattle.ordered.proofs.Ordered.{fail-end, fail-here, fail-next, from-start}
+use Rattle.ordered.specs.Ordered.{firstFail}
 use Rattle.airframe_block.specs.Block.{reservedRow, rowClear}
 use Rattle.airframe_block.proofs.reserved_row.Statement.{statement}
 use Rattle.airframe_block.proofs.reserved_row.Tie as tie

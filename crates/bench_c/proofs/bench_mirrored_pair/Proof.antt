@@ -1,5 +1,5 @@
--- `bench_c::bench_mirrored_pair` meets its contract. Assumes nothing.
-use Rattle.bench_c.specs.Library.{blockReflected, blockRun, runCount, runReply, runRow}
+-- `bench_c::bench_mirrored_pair` meets its contract: where both arrays fit, what is handed back is the pair from the state that was read. Assumes nothing.
+use Rattle.bench_c.specs.Library.{mirroredPair}
 use Rattle.bench_c.proofs.Lengths.{pair-fits}
 use native.Mathlib.Omega.{arith}
 use mathlib.Core.Path.{_∙_, sym}
@@ -10,8 +10,8 @@ use Rattle.bench_c.proofs.bench_mirrored_pair.Tie as tie
 pair-fits-requires : tie.Need-pair-fits-requires
 pair-fits-requires c κs = search needs
 
-flight-of-requires : tie.Need-flight-of-requires
-flight-of-requires c κs = omega (arith, pair-fits _ _ (sym (c .before .before .pair-fits .ensures) ∙ c .before .if1 .taken) .0)
+flight-in-requires : tie.Need-flight-in-requires
+flight-in-requires c κs = omega (arith, pair-fits _ _ (sym (c .before .before .pair-fits .ensures) ∙ c .before .if1 .taken) .0)
 
 read-airframe-requires : tie.Need-read-airframe-requires
 read-airframe-requires c κs = search needs
@@ -35,19 +35,28 @@ same-length-2 : tie.Need-same-length-2
 same-length-2 c = search needs
 
 returns : tie.Need-returns
-unfolding blockRun blockReflected runReply runRow runCount
-returns c = (simp (c .reply .ensures, c .before .before .before .before .before .before .before .before .before .before .before .pair-by .ensures .0, c .before .before .before .before .before .before .before .before .before .before .before .before .read-airframe .ensures, c .before .before .before .before .before .before .before .before .before .before .before .before .before .flight-of .ensures, sym (c .before .before .before .before .before .before .before .before .before .before .before .before .before .before .before .before .pair-fits .ensures) ∙ c .before .before .before .before .before .before .before .before .before .before .before .before .before .before .before .if1 .taken), (simp (c .before .before .before .before .before .before .before .put-end .ensures, c .before .before .before .before .before .before .before .before .before .before .before .pair-by .ensures .0, c .before .before .before .before .before .before .before .before .before .before .before .before .read-airframe .ensures, c .before .before .before .before .before .before .before .before .before .before .before .before .before .flight-of .ensures, sym (c .before .before .before .before .before .before .before .before .before .before .before .before .before .before .before .before .pair-fits .ensures) ∙ c .before .before .before .before .before .before .before .before .before .before .before .before .before .before .before .if1 .taken), (simp (c .before .before .before .put-end2 .ensures, c .before .before .before .before .before .before .before .before .before .before .before .pair-by .ensures .1, c .before .before .before .before .before .before .before .before .before .before .before .before .read-airframe .ensures, c .before .before .before .before .before .before .before .before .before .before .before .before .before .flight-of .ensures, sym (c .before .before .before .before .before .before .before .before .before .before .before .before .before .before .before .before .pair-fits .ensures) ∙ c .before .before .before .before .before .before .before .before .before .before .before .before .before .before .before .if1 .taken), (simp (c .before .before .before .before .before .before .before .before .before .before .before .pair-by .ensures .0, c .before .before .before .before .before .before .before .before .before .before .before .before .read-airframe .ensures, c .before .before .before .before .before .before .before .before .before .before .before .before .before .flight-of .ensures, sym (c .before .before .before .before .before .before .before .before .before .before .before .before .before .before .before .before .pair-fits .ensures) ∙ c .before .before .before .before .before .before .before .before .before .before .before .before .before .before .before .if1 .taken), simp (c .before .before .before .before .before .before .before .before .before .before .before .pair-by .ensures .1, c .before .before .before .before .before .before .before .before .before .before .before .before .read-airframe .ensures, c .before .before .before .before .before .before .before .before .before .before .before .before .before .flight-of .ensures, sym (c .before .before .before .before .before .before .before .before .before .before .before .before .before .before .before .before .pair-fits .ensures) ∙ c .before .before .before .before .before .before .before .before .before .before .before .before .before .before .before .if1 .taken)))))
+unfolding mirroredPair
+returns c =
+    let p = c .before .before .before .before .before .before .before .before .before .before .before in
+    let i = p .before .before .before .before in
+    let e = sym (i .before .pair-fits .ensures) ∙ i .if1 .taken in (
+      simp (c .reply .ensures, p .pair-by .ensures .0, p .before .read-airframe .ensures, p .before .before .flight-in .ensures, e),
+      simp (c .before .before .before .before .before .before .before .put-end .ensures, p .pair-by .ensures .0, p .before .read-airframe .ensures, p .before .before .flight-in .ensures, e),
+      simp (c .before .before .before .put-end2 .ensures, p .pair-by .ensures .1, p .before .read-airframe .ensures, p .before .before .flight-in .ensures, e),
+      simp (p .pair-by .ensures .0, p .before .read-airframe .ensures, p .before .before .flight-in .ensures, e),
+      simp (p .pair-by .ensures .1, p .before .read-airframe .ensures, p .before .before .flight-in .ensures, e),
+    )
 
 returns-2 : tie.Need-returns-2
-unfolding blockRun blockReflected runReply runRow runCount
-returns-2 c = let e = sym (c .before .pair-fits .ensures) ∙ c .if1 .left in (simp e, (simp e, (simp e, (simp e, simp e))))
+unfolding mirroredPair
+returns-2 c = let e = sym (c .before .pair-fits .ensures) ∙ c .if1 .left in (simp e, simp e, simp e, simp e, simp e)
 
 pub bench-mirrored-pair-spec : {M : Type 1} → statement M
 bench-mirrored-pair-spec =
     tie.close
     (tie.spec
     pair-fits-requires
-    flight-of-requires
+    flight-in-requires
     read-airframe-requires
     pair-by-requires
     put-end-requires

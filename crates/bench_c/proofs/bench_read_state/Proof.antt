@@ -1,12 +1,12 @@
 -- `bench_c::bench_read_state` meets its contract. Assumes nothing.
 use borrow.Author.Tests.{eq-eqb, ne-eqb}
-use Rattle.bench_c.specs.Library.{readReply, readRow}
+use Rattle.bench_c.specs.Library.{readState}
 use borrow.Author.Needs.{needs}
 use Rattle.bench_c.proofs.bench_read_state.Statement.{statement}
 use Rattle.bench_c.proofs.bench_read_state.Tie as tie
 
 returns : tie.Need-returns
-unfolding readReply readRow
+unfolding readState
 returns c = (simp (ne-eqb _ _ (c .if1 .taken)), simp (ne-eqb _ _ (c .if1 .taken)))
 
 read-state-requires : tie.Need-read-state-requires
@@ -22,7 +22,7 @@ same-length : tie.Need-same-length
 same-length c = search needs
 
 returns-2 : tie.Need-returns-2
-unfolding readReply readRow
+unfolding readState
 returns-2 c = (simp (c .reply .ensures, c .before .before .before .before .before .read-state .ensures, eq-eqb _ _ (c .before .before .before .before .before .before .if1 .left)), simp (c .before .before .before .put-flight .ensures, c .before .before .before .before .before .read-state .ensures, eq-eqb _ _ (c .before .before .before .before .before .before .if1 .left)))
 
 pub bench-read-state-spec : {M : Type 1} → statement M

@@ -1,12 +1,12 @@
--- `bench_c::bench_run` meets its contract. Assumes nothing.
-use Rattle.bench_c.specs.Library.{blockRun, runCount, runReply, runRow}
+-- `bench_c::bench_run` meets its contract: where the array fits, what is handed back is the run from the state that was read from it. Assumes nothing.
+use Rattle.bench_c.specs.Library.{run}
 use borrow.Author.Tests.{eq-eqb, ne-eqb}
 use borrow.Author.Needs.{needs}
 use Rattle.bench_c.proofs.bench_run.Statement.{statement}
 use Rattle.bench_c.proofs.bench_run.Tie as tie
 
-flight-of-requires : tie.Need-flight-of-requires
-flight-of-requires c κs = search needs
+flight-in-requires : tie.Need-flight-in-requires
+flight-in-requires c κs = search needs
 
 read-airframe-requires : tie.Need-read-airframe-requires
 read-airframe-requires c κs = search needs
@@ -24,18 +24,24 @@ same-length : tie.Need-same-length
 same-length c = search needs
 
 returns : tie.Need-returns
-unfolding blockRun runReply runRow runCount
-returns c = (simp (c .reply .ensures, c .before .before .before .before .before .ran-by .ensures, c .before .before .before .before .before .before .read-airframe .ensures, c .before .before .before .before .before .before .before .flight-of .ensures, eq-eqb _ _ (c .before .before .before .before .before .before .before .before .before .if1 .taken)), (simp (c .before .before .before .put-end .ensures, c .before .before .before .before .before .ran-by .ensures, c .before .before .before .before .before .before .read-airframe .ensures, c .before .before .before .before .before .before .before .flight-of .ensures, eq-eqb _ _ (c .before .before .before .before .before .before .before .before .before .if1 .taken)), simp (c .before .before .before .before .before .ran-by .ensures, c .before .before .before .before .before .before .read-airframe .ensures, c .before .before .before .before .before .before .before .flight-of .ensures, eq-eqb _ _ (c .before .before .before .before .before .before .before .before .before .if1 .taken))))
+unfolding run
+returns c =
+    let r = c .before .before .before .before .before in
+    let l = eq-eqb _ _ (r .before .before .before .before .if1 .taken) in (
+      simp (c .reply .ensures, r .ran-by .ensures, r .before .read-airframe .ensures, r .before .before .flight-in .ensures, l),
+      simp (c .before .before .before .put-end .ensures, r .ran-by .ensures, r .before .read-airframe .ensures, r .before .before .flight-in .ensures, l),
+      simp (r .ran-by .ensures, r .before .read-airframe .ensures, r .before .before .flight-in .ensures, l),
+    )
 
 returns-2 : tie.Need-returns-2
-unfolding blockRun runReply runRow runCount
-returns-2 c = (simp (ne-eqb _ _ (c .if1 .left)), (simp (ne-eqb _ _ (c .if1 .left)), simp (ne-eqb _ _ (c .if1 .left))))
+unfolding run
+returns-2 c = let l = ne-eqb _ _ (c .if1 .left) in (simp l, simp l, simp l)
 
 pub bench-run-spec : {M : Type 1} → statement M
 bench-run-spec =
     tie.close
     (tie.spec
-    flight-of-requires
+    flight-in-requires
     read-airframe-requires
     ran-by-requires
     put-end-requires

@@ -1,5 +1,5 @@
 -- `bench_c::pair_by` meets its contract. Assumes nothing.
-use mathlib.Core.Path.{_∙_, ap, sym}
+use mathlib.Core.Path.{_∙_, sym}
 use borrow.Author.Tests.{eq-eqb, ne-eqb}
 use Rattle.bench_c.specs.Library.{ranBy, reflectedBy}
 use borrow.Author.Needs.{needs}

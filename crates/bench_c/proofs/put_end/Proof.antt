@@ -1,7 +1,7 @@
 -- `bench_c::put_end` meets its contract. Assumes nothing.
 use mathlib.Core.Path.{_∙_, sym}
 use borrow.Author.Tests.{eq-eqb, ne-eqb}
-use Rattle.bench_c.specs.Library.{endRow}
+use Rattle.bench_c.specs.Library.{stateAfterRun}
 use borrow.Author.Needs.{needs}
 use Rattle.bench_c.proofs.put_end.Statement.{statement}
 use Rattle.bench_c.proofs.put_end.Tie as tie
@@ -16,11 +16,11 @@ same-length : tie.Need-same-length
 same-length c = search needs
 
 returns : tie.Need-returns
-unfolding endRow
+unfolding stateAfterRun
 returns c = simp (c .before .before .put-flight .ensures, eq-eqb _ _ (sym (c .before .before .before .before .before .number .ensures) ∙ c .before .before .before .before .if1 .taken))
 
 returns-2 : tie.Need-returns-2
-unfolding endRow
+unfolding stateAfterRun
 returns-2 c = simp (ne-eqb _ _ (λ e. c .if1 .left (c .before .number .ensures ∙ e)))
 
 pub put-end-spec : {M : Type 1} → statement M

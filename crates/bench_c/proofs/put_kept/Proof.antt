@@ -1,7 +1,7 @@
 -- `bench_c::put_kept` meets its contract. Assumes nothing.
 use mathlib.Core.Path.{_∙_, sym}
 use borrow.Author.Tests.{eq-eqb, ne-eqb}
-use Rattle.bench_c.specs.Library.{keptRow}
+use Rattle.bench_c.specs.Library.{stateAfterTick}
 use borrow.Author.Needs.{needs}
 use Rattle.bench_c.proofs.put_kept.Statement.{statement}
 use Rattle.bench_c.proofs.put_kept.Tie as tie
@@ -16,11 +16,11 @@ same-length : tie.Need-same-length
 same-length c = search needs
 
 returns : tie.Need-returns
-unfolding keptRow
+unfolding stateAfterTick
 returns c = simp (c .before .before .put-flight .ensures, eq-eqb _ _ (sym (c .before .before .before .before .before .number .ensures) ∙ c .before .before .before .before .if1 .taken))
 
 returns-2 : tie.Need-returns-2
-unfolding keptRow
+unfolding stateAfterTick
 returns-2 c = simp (ne-eqb _ _ (λ e. c .if1 .left (c .before .number .ensures ∙ e)))
 
 pub put-kept-spec : {M : Type 1} → statement M

@@ -1,7 +1,7 @@
 -- `flight::slots_outside` meets its contract. Assumes nothing.
 use Rattle.flight.specs.Envelope.{slotInside, slotsOutside}
-use Rattle.float.specs.Ordered.{firstFail}
-use Rattle.float.proofs.Ordered.{fail-end, fail-here, fail-next, not-false, not-true, pass-none}
+use Rattle.ordered.specs.Ordered.{firstFail}
+use Rattle.ordered.proofs.Ordered.{fail-end, fail-here, fail-next, not-false, not-true, pass-none}
 use borrow.Author.Needs.{needs}
 use native.Mathlib.Omega.{arith}
 use mathlib.Core.Path.{_∙_, _≡_, refl, sym}

@@ -1,6 +1,6 @@
--- `float::biased_power` meets its contract. Assumes nothing.
+-- `float::biased_power` meets its contract: the pattern k * 2 ^ 23 has the exponent's field k and no digits. Assumes nothing.
 use native.Mathlib.Omega.{arith}
-use Prim.Native.Nat.{_*_, _%_, _≤_}
+use Prim.Native.Nat.{_*_}
 use Rattle.float.proofs.Patterns.{not-nan-pattern, power-is}
 use Rattle.float.proofs.biased_power.Statement.{statement}
 use Rattle.float.proofs.biased_power.Tie as tie

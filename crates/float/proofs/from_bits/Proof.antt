@@ -1,4 +1,4 @@
--- `float::from_bits` meets its contract. Assumes nothing.
+-- `float::from_bits` meets its contract: of the patterns above the infinity's, the sign aside, every one is a NaN's, and of the others none. Assumes nothing.
 use mathlib.Core.Path.{_∙_, sym}
 use native.Mathlib.Omega.{arith}
 use Rattle.float.proofs.Patterns.{not-nan-pattern, nan-pattern, zero-by-zero}

@@ -1,4 +1,4 @@
--- `float::read` meets its contract. Assumes nothing.
+-- `float::read` meets its contract: four bytes are below 256 each, so the word is below 2 ^ 32. Assumes nothing.
 use borrow.Author.Needs.{needs}
 use Rattle.float.proofs.read.Statement.{statement}
 use Rattle.float.proofs.read.Tie as tie

@@ -1,5 +1,5 @@
--- `float::to_bits` meets its contract. Assumes nothing.
-use mathlib.Core.Path.{_≡_, refl, sym, ap, subst, _∙_}
+-- `float::to_bits` meets its contract: what differs from itself is a NaN, and only for a NaN are the bits chosen. Assumes nothing.
+use mathlib.Core.Path.{_≡_, sym, ap, subst}
 use lib.Dec.{T}
 use lib.Ieee.{Float, nan, binary32, toBits}
 use lib.Ieee.Compare.{differs-from-itself}

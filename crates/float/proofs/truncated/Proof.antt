@@ -1,4 +1,4 @@
--- `float::truncated` meets its contract. Assumes nothing.
+-- `float::truncated` meets its contract: below 2 ^ 24 in size the cut is an integer that the machine and the format hold. Assumes nothing.
 use Rattle.float.proofs.Integers.{Small, small}
 use Rattle.float.proofs.truncated.Statement.{statement}
 use Rattle.float.proofs.truncated.Tie as tie

@@ -1,4 +1,4 @@
--- `float::whole_part` meets its contract. Assumes nothing.
+-- `float::whole_part` meets its contract: its two tests are the definition's, and what is cut between them comes back as a float. Assumes nothing.
 use mathlib.Core.Path.{_≡_, refl, sym, ap, _∙_, subst}
 use mathlib.Core.Bool.{Bool, true, false, cond, _&&_}
 use lib.IntN.{ℤ, pos}
@@ -7,8 +7,7 @@ use lib.Ieee.{Float, fin, binary32, ofBits, neg, lt, ofInt, toSigned, inFloat}
 use mir.Val.{toZ, ofZ}
 use mir.Syntax.{w64}
 use mir.ValLaws.{toZ-ofZ}
-use borrow.Author.Needs.{needs}
-use Rattle.float.specs.Whole.{wholePart}
+use Rattle.float.specs.Contracts.{wholePart}
 use Rattle.float.proofs.whole_part.Statement.{statement}
 use Rattle.float.proofs.whole_part.Tie as tie
 

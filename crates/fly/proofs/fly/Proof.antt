@@ -16,6 +16,9 @@ large-buffer-requires c κs = search needs
 large-buffer-requires-2 : tie.Need-large-buffer-requires-2 Inv-loop μ-loop
 large-buffer-requires-2 c κs = search needs
 
+start-requires : tie.Need-start-requires Inv-loop μ-loop
+start-requires c κs = search needs
+
 loop-holds : tie.Need-loop-holds Inv-loop μ-loop
 loop-holds c = search needs
 
@@ -51,6 +54,7 @@ fly-spec =
     μ-loop
     large-buffer-requires
     large-buffer-requires-2
+    start-requires
     loop-holds
     read-ticks-requires
     fly-some-requires

@@ -23,8 +23,10 @@ returns c =
     let s = c .before .before .before .before in
     let rows = s .args .rows in
     let long : length (rows .rows) ≡ 16 = sym (length-map (rows .rows) _) ∙ s .good .0 .1 .1 .0 .1 .0 .1 in
-    let e : c .mixed-lent .result ≡ mixOf rows (s .args .layout) = simp (c .mixed-lent .ensures, c .before .start .ensures, c .before .before .live .ensures .0) in
-    (e, (ap (λ (m : Mix). m .motors) e ∙ lent-motors rows (s .args .layout) long, ap surfacesIn e ∙ lent-surfaces rows (s .args .layout) long))
+    let l = s .args .layout in
+    let tau = s .args .time-constant-s in
+    let e : c .mixed-lent .result ≡ mixOf rows l tau = simp (c .mixed-lent .ensures, c .before .start .ensures, c .before .before .live .ensures .0) in
+    (e, (ap (λ (m : Mix). m .motors) e ∙ lent-motors rows l tau long, ap surfacesIn e ∙ lent-surfaces rows l tau long))
 
 pub mixed-spec : {M : Type 1} → statement M
 mixed-spec = tie.close (tie.spec live-requires start-requires mixed-lent-requires returns)

@@ -8,16 +8,17 @@ use Rattle.airframe.specs.Reflection.{reflectAirframe}
 use Rattle.flight.specs.Reflection.{reflectFlight, reflectTick}
 use Rattle.float.proofs.Held.{field-held}
 use Rattle.float.specs.Bytes.{byteAt}
-use Rattle.wing.specs.Running.{Held}
+use Rattle.wing.proofs.Running.{Held}
 use Rattle.run.proofs.Bytes.{reflected-run, reflected-ticks}
 use Rattle.run.proofs.Mirror.{mirrored}
-use Rattle.run.proofs.Turns.{seen-plain, seen-reflected}
-use Rattle.run.specs.Run.{ranOf, ranOver, seenRan, ticksOf}
+use Rattle.run.proofs.Turns.{plain-track, reflected-track}
+use Rattle.run.specs.Contracts.{trackRan}
+use Rattle.run.specs.Run.{ranOf, ranOver, ticksOf}
 use Rattle.run.proofs.mirrored_pair.Statement.{statement}
 use Rattle.run.proofs.mirrored_pair.Tie as tie
 
-seen-run-requires : tie.Need-seen-run-requires
-seen-run-requires c κs = search needs
+run-track-requires : tie.Need-run-track-requires
+run-track-requires c κs = search needs
 
 reflected-requires : tie.Need-reflected-requires
 reflected-requires c κs = search needs
@@ -25,24 +26,24 @@ reflected-requires c κs = search needs
 reflected-requires-2 : tie.Need-reflected-requires-2
 reflected-requires-2 c κs = search needs
 
-seen-run-requires-2 : tie.Need-seen-run-requires-2
-seen-run-requires-2 c κs = search needs
+run-track-requires-2 : tie.Need-run-track-requires-2
+run-track-requires-2 c κs = search needs
 
 -- what owning the state tells: its motors' running values are 32-bit floats
 held : (c : tie.Start) → Held (c .args .f)
-held c = record { motor = λ k l. field-held (c .args .f .motors) _ k (c .good .1 .0 .1 .1 .1 .1 .1 .1 .0 .1 .1) }
+held c = record { motors = record { motor = λ k l. field-held (c .args .f .motors) _ k (c .good .1 .0 .1 .1 .1 .0 .1 .1) } }
 
 returns : tie.Need-returns
-unfolding seenRan ranOf
+unfolding trackRan ranOf
 returns c =
     let k = c .before .before .before .before in
     let a = k .before .args in
     let s = a .trace .now in
     let ts = ticksOf s in
     let bytes : (i : ℕ) → byteAt s i < 256 = λ i. omega (arith, k .shared-slice-known .given i) in
-    let second : c .seen-run2 .result ≡ ranOver (reflectAirframe (a .a)) (reflectFlight (a .f)) s (map reflectTick ts) = c .seen-run2 .ensures ∙ rw (c .before .before .reflected .ensures, c .before .reflected2 .ensures, seen-reflected ts) in
+    let second : c .run-track2 .result ≡ ranOver (reflectAirframe (a .a)) (reflectFlight (a .f)) s (map reflectTick ts) = c .run-track2 .ensures ∙ rw (c .before .before .reflected .ensures, c .before .reflected2 .ensures, reflected-track ts) in
     record {
-      first = c .before .before .before .seen-run .ensures ∙ ap (ranOver (a .a) (a .f) s) (seen-plain ts);
+      first = c .before .before .before .run-track .ensures ∙ ap (ranOver (a .a) (a .f) s) (plain-track ts);
       second = second ∙ sym (reflected-run (reflectAirframe (a .a)) (reflectFlight (a .f)) s bytes);
       ticks = reflected-ticks s bytes;
       mirrored = λ e o. mirrored (a .a) (a .f) ts e o (held (k .before));
@@ -52,8 +53,8 @@ pub mirrored-pair-spec : {M : Type 1} → statement M
 mirrored-pair-spec =
     tie.close
     (tie.spec
-    seen-run-requires
+    run-track-requires
     reflected-requires
     reflected-requires-2
-    seen-run-requires-2
+    run-track-requires-2
     returns)

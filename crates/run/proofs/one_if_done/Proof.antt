@@ -4,7 +4,7 @@ use mathlib.Core.Bool.{false}
 use mathlib.Core.Path.{_∙_, _≡_, sym}
 use borrow.Author.Needs.{needs}
 use Rattle.answers.specs.Answers.{numberOf}
-use Rattle.float.proofs.Ordered.{some-eqb}
+use Rattle.ordered.proofs.Ordered.{some-eqb}
 use Rattle.mixers.specs.Slots.{at}
 use Rattle.run.specs.Run.{oneIfDone}
 use Rattle.run.proofs.one_if_done.Statement.{statement}

@@ -13,11 +13,17 @@ add-read c = search needs
 read-requires-2 : tie.Need-read-requires-2
 read-requires-2 c κs = search needs
 
+mul-read : tie.Need-mul-read
+mul-read c = search needs
+
 add-read-2 : tie.Need-add-read-2
 add-read-2 c = search needs
 
 read-requires-3 : tie.Need-read-requires-3
 read-requires-3 c κs = search needs
+
+mul-read-2 : tie.Need-mul-read-2
+mul-read-2 c = search needs
 
 add-read-3 : tie.Need-add-read-3
 add-read-3 c = search needs
@@ -36,8 +42,10 @@ read-attitude-spec =
     read-requires
     add-read
     read-requires-2
+    mul-read
     add-read-2
     read-requires-3
+    mul-read-2
     add-read-3
     read-requires-4
     returns)

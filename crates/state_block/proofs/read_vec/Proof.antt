@@ -13,6 +13,9 @@ add-read c = search needs
 read-requires-2 : tie.Need-read-requires-2
 read-requires-2 c κs = search needs
 
+mul-read : tie.Need-mul-read
+mul-read c = search needs
+
 add-read-2 : tie.Need-add-read-2
 add-read-2 c = search needs
 
@@ -25,4 +28,4 @@ returns c = simp (c .read3 .ensures, c .before .read2 .ensures, c .before .befor
 
 pub read-vec-spec : {M : Type 1} → statement M
 read-vec-spec =
-    tie.close (tie.spec read-requires add-read read-requires-2 add-read-2 read-requires-3 returns)
+    tie.close (tie.spec read-requires add-read read-requires-2 mul-read add-read-2 read-requires-3 returns)

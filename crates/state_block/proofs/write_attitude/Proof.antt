@@ -13,11 +13,17 @@ add-write c = search needs
 write-requires-2 : tie.Need-write-requires-2
 write-requires-2 c κs = search needs
 
+mul-write : tie.Need-mul-write
+mul-write c = search needs
+
 add-write-2 : tie.Need-add-write-2
 add-write-2 c = search needs
 
 write-requires-3 : tie.Need-write-requires-3
 write-requires-3 c κs = search needs
+
+mul-write-2 : tie.Need-mul-write-2
+mul-write-2 c = search needs
 
 add-write-3 : tie.Need-add-write-3
 add-write-3 c = search needs
@@ -39,8 +45,10 @@ write-attitude-spec =
     write-requires
     add-write
     write-requires-2
+    mul-write
     add-write-2
     write-requires-3
+    mul-write-2
     add-write-3
     write-requires-4
     same-length

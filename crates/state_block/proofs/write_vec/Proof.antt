@@ -13,6 +13,9 @@ add-write c = search needs
 write-requires-2 : tie.Need-write-requires-2
 write-requires-2 c κs = search needs
 
+mul-write : tie.Need-mul-write
+mul-write c = search needs
+
 add-write-2 : tie.Need-add-write-2
 add-write-2 c = search needs
 
@@ -33,6 +36,7 @@ write-vec-spec =
     write-requires
     add-write
     write-requires-2
+    mul-write
     add-write-2
     write-requires-3
     same-length

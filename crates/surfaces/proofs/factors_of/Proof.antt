@@ -1,4 +1,4 @@
--- `surfaces::factors_of` meets its contract. Assumes nothing.
+-- `surfaces::factors_of` meets its contract: after i turns the first i rows are put. Assumes nothing.
 use Prim.Native.Nat.{_-_, _≤_}
 use mathlib.Core.Path.{_∙_, _≡_, ap}
 use native.Mathlib.Nat.{le-antisymm}

@@ -1,4 +1,4 @@
--- `surfaces::weighed` meets its contract. Assumes nothing.
+-- `surfaces::weighed` meets its contract: after i turns the first i slots are weighed and the others as they were. Assumes nothing.
 use Prim.Native.Nat.{_-_, ℕ}
 use lib.Ieee.{nan}
 use mathlib.Core.Path.{_∙_, _≡_, ap}

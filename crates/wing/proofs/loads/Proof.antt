@@ -22,12 +22,12 @@ deflection-rad-requires c κs = search needs
 wrench-requires : tie.Need-wrench-requires
 wrench-requires c κs = search needs
 
-together-requires : tie.Need-together-requires
-together-requires c κs = search needs
+with-thrust-requires : tie.Need-with-thrust-requires
+with-thrust-requires c κs = search needs
 
 returns : tie.Need-returns
 unfolding loadsOf aeroOf pullOf airOf
-returns c = simp (c .together .ensures, c .before .wrench .ensures, c .before .before .deflection-rad .ensures, c .before .before .before .wash-of .ensures, c .before .before .before .before .wrench-with .ensures, c .before .before .before .before .before .inverse-transform-vector .ensures, c .before .before .before .before .before .before .air-relative-velocity-ned-mps .ensures)
+returns c = simp (c .with-thrust .ensures, c .before .wrench .ensures, c .before .before .deflection-rad .ensures, c .before .before .before .wash-of .ensures, c .before .before .before .before .wrench-with .ensures, c .before .before .before .before .before .inverse-transform-vector .ensures, c .before .before .before .before .before .before .air-relative-velocity-ned-mps .ensures)
 
 pub loads-spec : {M : Type 1} → statement M
 loads-spec =
@@ -39,5 +39,5 @@ loads-spec =
     wash-of-requires
     deflection-rad-requires
     wrench-requires
-    together-requires
+    with-thrust-requires
     returns)

@@ -6,7 +6,7 @@ use mathlib.Core.Path.{_∙_, _≡_, ap, sym}
 use borrow.Author.Needs.{needs}
 use Rattle.airframe.specs.Acceptance.{refusedPlace}
 use Rattle.answers.specs.declared.Answer.the-variants.{NumberOutOfRange}
-use Rattle.float.proofs.Ordered.{some-eqb}
+use Rattle.ordered.proofs.Ordered.{some-eqb}
 use Rattle.mixers.specs.Slots.{at}
 use Rattle.wing.specs.Tick.{refusedOf, tickOf}
 use Rattle.wing.proofs.tick.Statement.{statement}
@@ -15,12 +15,12 @@ use Rattle.wing.proofs.tick.Tie as tie
 refused-place-requires : tie.Need-refused-place-requires
 refused-place-requires c κs = search needs
 
-flown-requires : tie.Need-flown-requires
-flown-requires c κs = search needs
+tick-accepted-requires : tie.Need-tick-accepted-requires
+tick-accepted-requires c κs = search needs
 
 returns : tie.Need-returns
 unfolding tickOf
-returns c = rw (sym (c .before .before .refused-place .ensures) ∙ c .before .if1 .taken) (c .flown .ensures)
+returns c = rw (sym (c .before .before .refused-place .ensures) ∙ c .before .if1 .taken) (c .tick-accepted .ensures)
 
 refused-requires : tie.Need-refused-requires
 refused-requires c κs = search needs
@@ -34,4 +34,4 @@ returns-2 c =
 
 pub tick-spec : {M : Type 1} → statement M
 tick-spec =
-    tie.close (tie.spec refused-place-requires flown-requires returns refused-requires returns-2)
+    tie.close (tie.spec refused-place-requires tick-accepted-requires returns refused-requires returns-2)

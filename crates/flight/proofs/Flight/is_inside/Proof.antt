@@ -1,10 +1,24 @@
 -- `flight::Flight::is_inside` meets its contract. Assumes nothing.
-use mathlib.Core.Path.{sym}
-use Rattle.flight.proofs.Inside.{inside-all}
 use lib.Ieee.{neg, ofBits, round}
 use borrow.Author.Needs.{needs}
+use Rattle.flight.proofs.Inside.{inside-all}
 use Rattle.flight.proofs.Flight.is_inside.Statement.{statement}
 use Rattle.flight.proofs.Flight.is_inside.Tie as tie
+
+is-inside-requires : tie.Need-is-inside-requires
+is-inside-requires c κs = search needs
+
+is-inside-requires-2 : tie.Need-is-inside-requires-2
+is-inside-requires-2 c κs = search needs
+
+norm-squared-requires : tie.Need-norm-squared-requires
+norm-squared-requires c κs = search needs
+
+inside-requires : tie.Need-inside-requires
+inside-requires c κs = search needs
+
+is-inside-requires-3 : tie.Need-is-inside-requires-3
+is-inside-requires-3 c κs = search needs
 
 slots-inside-requires : tie.Need-slots-inside-requires
 slots-inside-requires c κs = search needs
@@ -15,26 +29,11 @@ slots-inside-requires-2 c κs = search needs
 both-requires : tie.Need-both-requires
 both-requires c κs = search needs
 
-norm-squared-requires : tie.Need-norm-squared-requires
-norm-squared-requires c κs = search needs
-
-inside-requires : tie.Need-inside-requires
-inside-requires c κs = search needs
-
-is-inside-requires : tie.Need-is-inside-requires
-is-inside-requires c κs = search needs
-
 both-requires-2 : tie.Need-both-requires-2
 both-requires-2 c κs = search needs
 
-is-inside-requires-2 : tie.Need-is-inside-requires-2
-is-inside-requires-2 c κs = search needs
-
 both-requires-3 : tie.Need-both-requires-3
 both-requires-3 c κs = search needs
-
-is-inside-requires-3 : tie.Need-is-inside-requires-3
-is-inside-requires-3 c κs = search needs
 
 both-requires-4 : tie.Need-both-requires-4
 both-requires-4 c κs = search needs
@@ -44,22 +43,22 @@ both-requires-5 c κs = search needs
 
 returns : tie.Need-returns
 unfolding ofBits round neg
-returns c = simp (c .both5 .ensures, c .before .both4 .ensures, c .before .before .is-inside3 .ensures, c .before .before .before .both3 .ensures, c .before .before .before .before .is-inside2 .ensures, c .before .before .before .before .before .both2 .ensures, c .before .before .before .before .before .before .is-inside .ensures, c .before .before .before .before .before .before .before .inside .ensures, c .before .before .before .before .before .before .before .before .norm-squared .ensures, c .before .before .before .before .before .before .before .before .before .both .ensures, c .before .before .before .before .before .before .before .before .before .before .slots-inside2 .ensures, c .before .before .before .before .before .before .before .before .before .before .before .slots-inside .ensures) (sym (inside-all (c .before .before .before .before .before .before .before .before .before .before .before .before .before .before .args .self)))
+returns c = cc (inside-all (c .before .before .before .before .before .before .before .before .before .before .before .before .before .before .before .args .self))
 
 pub is-inside-spec : {M : Type 1} → statement M
 is-inside-spec =
     tie.close
     (tie.spec
+    is-inside-requires
+    is-inside-requires-2
+    norm-squared-requires
+    inside-requires
+    is-inside-requires-3
     slots-inside-requires
     slots-inside-requires-2
     both-requires
-    norm-squared-requires
-    inside-requires
-    is-inside-requires
     both-requires-2
-    is-inside-requires-2
     both-requires-3
-    is-inside-requires-3
     both-requires-4
     both-requires-5
     returns)

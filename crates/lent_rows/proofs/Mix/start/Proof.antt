@@ -4,15 +4,15 @@ use Rattle.lent_rows.specs.Mixing.{startOf}
 use Rattle.lent_rows.proofs.Mix.start.Statement.{statement}
 use Rattle.lent_rows.proofs.Mix.start.Tie as tie
 
-stopped-requires : tie.Need-stopped-requires
-stopped-requires c κs = search needs
+undriven-requires : tie.Need-undriven-requires
+undriven-requires c κs = search needs
 
 zeros-requires : tie.Need-zeros-requires
 zeros-requires c κs = search needs
 
 returns : tie.Need-returns
 unfolding startOf
-returns c = simp (c .before .stopped .ensures, c .zeros .ensures)
+returns c = simp (c .before .undriven .ensures, c .zeros .ensures)
 
 pub start-spec : {M : Type 1} → statement M
-start-spec = tie.close (tie.spec stopped-requires zeros-requires returns)
+start-spec = tie.close (tie.spec undriven-requires zeros-requires returns)

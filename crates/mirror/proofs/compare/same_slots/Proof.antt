@@ -2,8 +2,8 @@
 use mathlib.Core.Bool.{Bool, cond, false}
 use Rattle.mirror.specs.Compare.{sameSlot}
 use native.Mathlib.Nat.{le-antisymm}
-use Rattle.float.specs.Ordered.{allPass}
-use Rattle.float.proofs.Ordered.{pass-more}
+use Rattle.ordered.specs.Contracts.{allPass}
+use Rattle.ordered.proofs.Ordered.{pass-more}
 use borrow.Author.Needs.{needs}
 use mathlib.Core.Path.{_∙_, _≡_, ap, refl}
 use Prim.Native.Nat.{_-_, _≤_}

@@ -8,14 +8,17 @@ use Rattle.mixers.proofs.Slots.{sum-more, vec-sum-more}
 use Rattle.mixers.specs.Slots.{sumTo, vecAt, vecSumTo}
 use Rattle.vector.specs.Vector.{scaleOf}
 use Rattle.motors.specs.Motor.{slotThrust, slotTorque, wrenchWith}
+use Rattle.motors.specs.declared.Motors.{Motors}
 use Rattle.motors.proofs.Motors.wrench_with.Statement.{statement}
 use Rattle.motors.proofs.Motors.wrench_with.Tie as tie
 
 abbrev Inv-loop : tie.InvT-loop
-Inv-loop self falloff airspeed-mps running torques thrust-n₀ torque-nm₀ i₀ thrust-n torque-nm i = (i ≤ 8) × (thrust-n ≡ sumTo (slotThrust self falloff airspeed-mps) i) × (torque-nm ≡ vecSumTo (slotTorque self falloff airspeed-mps) i)
+Inv-loop falloff airspeed-mps group running torques thrust-n₀ torque-nm₀ i₀ thrust-n torque-nm i =
+    let m : Motors = record { group = group; running = running } in
+    (i ≤ 8) × (thrust-n ≡ sumTo (slotThrust m falloff airspeed-mps) i) × (torque-nm ≡ vecSumTo (slotTorque m falloff airspeed-mps) i)
 
 abbrev μ-loop : tie.MeasureT-loop
-μ-loop self falloff airspeed-mps running torques thrust-n₀ torque-nm₀ i₀ thrust-n torque-nm i = 8 - i
+μ-loop falloff airspeed-mps group running torques thrust-n₀ torque-nm₀ i₀ thrust-n torque-nm i = 8 - i
 
 zeros-requires : tie.Need-zeros-requires Inv-loop μ-loop
 zeros-requires c κs = search needs
@@ -54,14 +57,14 @@ loop-less c = search needs
 loop-again : tie.Need-loop-again Inv-loop μ-loop
 unfolding slotThrust slotTorque
 loop-again c =
-    let s = c .before .before .before .before .before in
-    let a = s .before .before .before .before .args in
+    let s = c .before .before .before .before .before .before in
+    let a = s .before .before .before .before .before .args in
     let i = s .loop .i in
     let one-n = c .before .before .before .motor-thrust-n in (
       search needs,
       sum-more (slotThrust (a .self) (a .falloff) (a .airspeed-mps)) i (s .loop .thrust-n) (one-n .result) (s .loop .inv .1) (one-n .ensures),
       vec-sum-more (slotTorque (a .self) (a .falloff) (a .airspeed-mps)) i (s .loop .torque-nm) (c .before .scale .result) (c .add .result) (s .loop .inv .2)
-          (c .before .scale .ensures ∙ ap (scaleOf (vecAt (a .self .«torque_per_thrust_m») i)) (one-n .ensures)) (c .add .ensures),
+          (c .before .scale .ensures ∙ ap (scaleOf (vecAt (a .self .group .«torque_per_thrust_m») i)) (one-n .ensures)) (c .add .ensures),
     )
 
 returns : tie.Need-returns Inv-loop μ-loop

@@ -1,4 +1,4 @@
--- `surfaces::Surfaces::deflection_rad` meets its contract. Assumes nothing.
+-- `surfaces::Surfaces::deflection_rad` meets its contract: after i turns the sum is that of the first i slots. Assumes nothing.
 use Prim.Native.Nat.{_-_, _≤_}
 use mathlib.Core.Path.{_≡_}
 use native.Mathlib.Nat.{le-antisymm}

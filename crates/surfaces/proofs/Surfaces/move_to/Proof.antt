@@ -1,4 +1,4 @@
--- `surfaces::Surfaces::move_to` meets its contract. Assumes nothing.
+-- `surfaces::Surfaces::move_to` meets its contract: after i turns the first i slots are moved and the others as they were. Assumes nothing.
 use Prim.Native.Nat.{_-_}
 use lib.Ieee.{Float, nan, neg, ofBits}
 use mathlib.Core.Path.{_∙_, ap}

@@ -1,0 +1,40 @@
+-- The numbers by place of the airframe of an array are the array's first. Assumes nothing.
+use Prim.Native.Nat.{ℕ}
+use lib.Dec.{eqb}
+use lib.Ieee.{Float}
+use mathlib.Core.Bool.{Bool, cond, false, true}
+use mathlib.Core.List.{List}
+use mathlib.Core.Path.{_∙_, _≡_, ap, refl}
+use Rattle.airframe.specs.Acceptance.{firstRefused, lowestPlace, refusedPlace}
+use Rattle.airframe.specs.Numbers.{baseNumbers, coefficientNumbers, falloffNumber, numbersCount, numbersOf, washNumbers}
+use Rattle.airframe_block.specs.Block.{coefficientsOf, falloffOf, layoutOf, modelOf, place, washFrom}
+use Rattle.fixed_wing.specs.declared.ThrustFalloff.the-variants.{Linear, PitchSpeed}
+use Rattle.mixers.specs.Slots.{at, listFrom, listOf}
+use Rattle.arrays.specs.Airframe.{airframeIn, isSet, kindAt, kindOf, motorsIn, placesIn, torquesAt, vecsIn, washAt, weightsAt}
+
+-- a falloff of either kind has its number
+falloff-number : (kind : ℕ) (x : Float) → falloffNumber (falloffOf kind x) ≡ x
+unfolding falloffOf
+falloff-number kind x = go (eqb kind 0)
+  where
+    go : (t : Bool) → falloffNumber (cond t (Linear x) (PitchSpeed x)) ≡ x
+    go true = refl
+    go false = refl
+
+pub array-places : (xs : List Float) → numbersOf (airframeIn xs) ≡ placesIn xs
+unfolding airframeIn motorsIn numbersOf baseNumbers coefficientNumbers washNumbers modelOf layoutOf coefficientsOf washFrom placesIn listOf listFrom
+array-places xs = ap (λ (x : Float). replaced xs x) (falloff-number (kindOf (at xs kindAt)) (at xs 36))
+  where
+    replaced : List Float → Float → List Float
+    replaced xs x = listOf (λ (k : ℕ). cond (eqb k 36) x (at xs k)) numbersCount
+
+-- test 6 by the array's numbers, ns being those by place
+abbrev pub tests : List Float → List Float → ℕ
+tests xs ns = firstRefused ns (falloffOf (kindOf (at xs kindAt)) (place (placesIn xs) 37)) (isSet (at xs washAt)) true (vecsIn xs torquesAt) (vecsIn xs weightsAt)
+
+tested : (xs : List Float) → refusedPlace (airframeIn xs) ≡ tests xs (numbersOf (airframeIn xs))
+unfolding refusedPlace lowestPlace airframeIn motorsIn modelOf
+tested xs = refl
+
+pub array-refused : (xs : List Float) → refusedPlace (airframeIn xs) ≡ tests xs (placesIn xs)
+array-refused xs = tested xs ∙ ap (λ (ns : List Float). tests xs ns) (array-places xs)

@@ -1,0 +1,77 @@
+-- A state read from its own array is the state again, and an airframe read from its own array the airframe: so a tick of a prepared airframe is the tick of the airframe that was read. Arrays have 8 elements, which their types
+-- tell. Assumes nothing.
+use Prim.Native.Nat.{ℕ}
+use lib.Ieee.{nan}
+use lib.IntN.{pos}
+use lib.ListN.{getD, length}
+use mathlib.Core.Bool.{Bool, false, true}
+use mathlib.Core.List.{List, map-id}
+use mathlib.Core.Path.{_∙_, _≡_, ap, refl}
+use Rattle.airframe.specs.Numbers.{baseNumbers, coefficientNumbers, falloffNumber, numbersOf, washNumbers}
+use Rattle.airframe.specs.declared.Airframe.{Airframe}
+use Rattle.airframe_block.specs.Block.{coefficientsOf, falloffOf, layoutOf, modelOf, washFrom}
+use Rattle.mixers.specs.Slots.{flagAt, listFrom, listOf, slots, vecAt as slotVec}
+use Rattle.fixed_wing.specs.declared.ThrustFalloff.{ThrustFalloff}
+use Rattle.fixed_wing.specs.declared.ThrustFalloff.the-variants.{Linear, PitchSpeed}
+use Rattle.flight.specs.declared.Flight.{Flight}
+use Rattle.float.proofs.Zeros.{some-not-zero, zero-is-zero}
+use Rattle.mixers.proofs.Slots.{map-slots}
+use Rattle.vector.specs.Vector.{vec}
+use Rattle.vector.specs.declared.Vec3.{Vec3}
+use Rattle.arrays.specs.Airframe.{airframeNumber, airframeNumbers, airframeIn, axisOf, flagNumber, flagsIn, isSet, kindNumber, kindOf, motorsIn, placesIn, vecsIn, vecsNumber}
+use Rattle.arrays.specs.Flight.{flightNumbers, flightIn, quatIn, slotsIn, vecIn}
+
+-- a list of 8 by its elements
+slots-again : {X : Type 0} (d : X) (xs : List X) → length xs ≡ 8 → slots (λ (k : ℕ). getD xs k d) ≡ xs
+slots-again d xs e = map-slots d (λ x. x) xs e ∙ map-id xs
+
+pub flight-again : (f : Flight) → length (f .motors) ≡ 8 → length (f .servos) ≡ 8 → flightIn (flightNumbers f) ≡ f
+unfolding flightIn flightNumbers vecIn quatIn slotsIn
+flight-again f m s = λ i. record {
+  body = f .body;
+  motors = slots-again nan (f .motors) m i;
+  servos = slots-again nan (f .servos) s i;
+}
+
+-- a falloff by its kind and number, a flag by its number
+falloff-again : (x : ThrustFalloff) → falloffOf (kindOf (kindNumber x)) (falloffNumber x) ≡ x
+unfolding falloffOf kindOf
+falloff-again (Linear n) = rw (zero-is-zero false (pos 0)) refl
+falloff-again (PitchSpeed n) = rw (some-not-zero false 0 (pos 0)) refl
+
+flag-again : (b : Bool) → isSet (flagNumber b) ≡ b
+unfolding isSet flagNumber
+flag-again true = rw (some-not-zero false 0 (pos 0)) refl
+flag-again false = rw (zero-is-zero false (pos 0)) refl
+
+flags-again : (bs : List Bool) → length bs ≡ 8 → slots (λ (k : ℕ). isSet (flagNumber (flagAt bs k))) ≡ bs
+flags-again bs e = ap (λ (f : Bool → Bool). slots (λ (k : ℕ). f (flagAt bs k))) (λ i b. flag-again b i) ∙ slots-again false bs e
+
+vecs-again : (vs : List Vec3) → length vs ≡ 8 → slots (λ (k : ℕ). slotVec vs k) ≡ vs
+vecs-again vs e = slots-again (vec nan nan nan) vs e
+
+pub airframe-again : (a : Airframe) → length (a .motors .used) ≡ 8 → length (a .motors .«torque_per_thrust_m») ≡ 8 → length (a .weights) ≡ 8 → airframeIn (airframeNumbers a) ≡ a
+unfolding airframeIn motorsIn airframeNumbers airframeNumber listOf listFrom placesIn modelOf layoutOf coefficientsOf washFrom numbersOf baseNumbers coefficientNumbers washNumbers flagsIn vecsIn vecIn vecsNumber axisOf
+airframe-again a u t w = λ i. record {
+  model = record {
+    «mass_kg» = a .model .«mass_kg»;
+    «inertia_kgm2» = a .model .«inertia_kgm2»;
+    «wing_area_m2» = a .model .«wing_area_m2»;
+    «span_m» = a .model .«span_m»;
+    «chord_m» = a .model .«chord_m»;
+    aero = a .model .aero;
+    «max_deflection_rad» = a .model .«max_deflection_rad»;
+    «servo_time_constant_s» = a .model .«servo_time_constant_s»;
+    «thrust_falloff» = falloff-again (a .model .«thrust_falloff») i;
+    «thrust_line_below_cg_m» = a .model .«thrust_line_below_cg_m»;
+  };
+  «wash_present» = flag-again (a .«wash_present») i;
+  wash = a .wash;
+  motors = record {
+    layout = a .motors .layout;
+    «time_constant_s» = a .motors .«time_constant_s»;
+    used = flags-again (a .motors .used) u i;
+    «torque_per_thrust_m» = vecs-again (a .motors .«torque_per_thrust_m») t i;
+  };
+  weights = vecs-again (a .weights) w i;
+}

@@ -1,0 +1,59 @@
+-- `arrays::refused_place` meets its contract. Assumes nothing.
+use borrow.Author.Needs.{needs}
+use mathlib.Core.Path.{_∙_, _≡_, sym}
+use Rattle.arrays.proofs.Places.{array-refused, tests}
+use Rattle.arrays.specs.Airframe.{placesIn}
+use Rattle.arrays.proofs.refused_place.Statement.{statement}
+use Rattle.arrays.proofs.refused_place.Tie as tie
+
+places-in-requires : tie.Need-places-in-requires
+places-in-requires c κs = search needs
+
+shared-slice-read-kind-of : tie.Need-shared-slice-read-kind-of
+shared-slice-read-kind-of c = search needs
+
+kind-of-requires : tie.Need-kind-of-requires
+kind-of-requires c κs = search needs
+
+array-read-falloff-of : tie.Need-array-read-falloff-of
+array-read-falloff-of c = search needs
+
+falloff-of-requires : tie.Need-falloff-of-requires
+falloff-of-requires c κs = search needs
+
+shared-slice-read-is-set : tie.Need-shared-slice-read-is-set
+shared-slice-read-is-set c = search needs
+
+is-set-requires : tie.Need-is-set-requires
+is-set-requires c κs = search needs
+
+vecs-in-requires : tie.Need-vecs-in-requires
+vecs-in-requires c κs = search needs
+
+vecs-in-requires-2 : tie.Need-vecs-in-requires-2
+vecs-in-requires-2 c κs = search needs
+
+first-refused-requires : tie.Need-first-refused-requires
+first-refused-requires c κs = search needs
+
+returns : tie.Need-returns
+returns c =
+    let xs = c .before .before .before .before .before .before .before .before .before .before .args .xs .now in
+    let e : c .first-refused .result ≡ tests xs (placesIn xs) = cc in
+    e ∙ sym (array-refused xs)
+
+pub refused-place-spec : {M : Type 1} → statement M
+refused-place-spec =
+    tie.close
+    (tie.spec
+    places-in-requires
+    shared-slice-read-kind-of
+    kind-of-requires
+    array-read-falloff-of
+    falloff-of-requires
+    shared-slice-read-is-set
+    is-set-requires
+    vecs-in-requires
+    vecs-in-requires-2
+    first-refused-requires
+    returns)

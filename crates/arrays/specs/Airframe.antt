@@ -1,0 +1,102 @@
+-- An airframe as an array of numbers: those by place (01, "Airframe numbers by place"), the falloff's kind (0 Linear, else
+-- PitchSpeed), whether a wash is present, which motors are used (0 no, else yes), the motors' torques and the surfaces' weights
+-- (roll, pitch, yaw of each slot). An array grows at its end alone. Definitions only.
+use Prim.Native.Nat.{_%_, _*_, _+_, _-_, _/_, ℕ}
+use lib.Dec.{eqb, ltb}
+use lib.Ieee.{Float, eq}
+use mathlib.Core.Bool.{Bool, cond, not}
+use mathlib.Core.List.{List}
+use Rattle.airframe.specs.Numbers.{numbersCount, numbersOf}
+use Rattle.airframe.specs.declared.Airframe.{Airframe}
+use Rattle.airframe_block.specs.Block.{layoutOf, modelOf, motorConstant, washFrom}
+use Rattle.mixers.specs.Slots.{at, flagAt, listOf, slots, vecAt as slotVec}
+use Rattle.fixed_wing.specs.declared.ThrustFalloff.{ThrustFalloff}
+use Rattle.fixed_wing.specs.declared.ThrustFalloff.the-variants.{Linear, PitchSpeed}
+use Rattle.float.specs.Notation.{nought, one}
+use Rattle.motors.specs.declared.MotorGroup.{MotorGroup}
+use Rattle.vector.specs.declared.Vec3.{Vec3}
+use Rattle.arrays.specs.Flight.{vecIn}
+
+-- at which number each part begins: the numbers by place begin it
+abbrev pub kindAt : ℕ
+kindAt = numbersCount
+
+abbrev pub washAt : ℕ
+washAt = kindAt + 1
+
+abbrev pub usedAt : ℕ
+usedAt = washAt + 1
+
+abbrev pub torquesAt : ℕ
+torquesAt = usedAt + 8
+
+abbrev pub weightsAt : ℕ
+weightsAt = torquesAt + 3 * 8
+
+abbrev pub airframeNumbersCount : ℕ
+airframeNumbersCount = weightsAt + 3 * 8
+
+-- ---- from an array
+
+-- 0 for either zero, else 1 (a NaN too)
+unfoldable pub kindOf : Float → ℕ
+kindOf x = cond (eq x nought) 0 1
+
+unfoldable pub isSet : Float → Bool
+isSet x = not (eq x nought)
+
+unfoldable pub placesIn : List Float → List Float
+placesIn xs = listOf (λ (k : ℕ). at xs k) numbersCount
+
+unfoldable pub vecsIn : List Float → ℕ → List Vec3
+vecsIn xs i = slots (λ (k : ℕ). vecIn xs (i + 3 * k))
+
+unfoldable pub flagsIn : List Float → List Bool
+flagsIn xs = slots (λ (k : ℕ). isSet (at xs (usedAt + k)))
+
+-- the motors along body x, ps being the numbers by place
+unfoldable pub motorsIn : List Float → List Float → MotorGroup
+motorsIn xs ps = record {
+  layout = layoutOf ps;
+  «time_constant_s» = motorConstant ps;
+  used = flagsIn xs;
+  «torque_per_thrust_m» = vecsIn xs torquesAt;
+}
+
+unfoldable pub airframeIn : List Float → Airframe
+airframeIn xs = record {
+  model = modelOf (placesIn xs) (kindOf (at xs kindAt));
+  «wash_present» = isSet (at xs washAt);
+  wash = washFrom (placesIn xs);
+  motors = motorsIn xs (placesIn xs);
+  weights = vecsIn xs weightsAt;
+}
+
+-- ---- to an array
+
+abbrev pub kindNumber : ThrustFalloff → Float
+kindNumber (Linear n) = nought
+kindNumber (PitchSpeed n) = one
+
+unfoldable pub flagNumber : Bool → Float
+flagNumber b = cond b one nought
+
+-- roll, pitch or yaw
+unfoldable pub axisOf : Vec3 → ℕ → Float
+axisOf v n = cond (eqb n 0) (v .x) (cond (eqb n 1) (v .y) (v .z))
+
+-- number k of the vectors of the 8 slots
+unfoldable pub vecsNumber : List Vec3 → ℕ → Float
+vecsNumber vs k = axisOf (slotVec vs (k / 3)) (k % 3)
+
+unfoldable pub airframeNumber : Airframe → ℕ → Float
+airframeNumber a k =
+    cond (ltb k kindAt) (at (numbersOf a) k)
+    (cond (ltb k washAt) (kindNumber (a .model .«thrust_falloff»))
+    (cond (ltb k usedAt) (flagNumber (a .«wash_present»))
+    (cond (ltb k torquesAt) (flagNumber (flagAt (a .motors .used) (k - usedAt)))
+    (cond (ltb k weightsAt) (vecsNumber (a .motors .«torque_per_thrust_m») (k - torquesAt))
+    (vecsNumber (a .weights) (k - weightsAt))))))
+
+unfoldable pub airframeNumbers : Airframe → List Float
+airframeNumbers a = listOf (airframeNumber a) airframeNumbersCount

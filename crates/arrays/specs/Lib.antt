@@ -1,0 +1,3 @@
+-- Arrays of numbers. Definitions only.
+pub mod Flight
+pub mod Airframe

@@ -1,0 +1,389 @@
+// A state, a tick and an airframe as arrays of numbers, as a caller who links the library holds them: the numbers of the state block
+// and of the tick block in their order, and an airframe that was read, prepared for many ticks.
+ghost use mathlib.Core.Path.{_≡_};
+ghost use Prim.Native.Nat.{_+_, _<_, _≤_};
+ghost use Rattle.airframe.specs.Acceptance.{refusedPlace};
+ghost use Rattle.airframe.specs.Numbers.{numbersCount, numbersOf};
+ghost use Rattle.mixers.specs.Slots.{at, flagAt};
+ghost use Rattle.arrays.specs.Flight as FlightArray;
+ghost use Rattle.arrays.specs.Airframe as AirframeArray;
+use airframe::Airframe;
+use airframe::NUMBERS;
+use body::Body;
+use fixed_wing::ThrustFalloff;
+use flight::Flight;
+use flight::Tick;
+use motors::MotorGroup;
+use vector::Quaternion;
+use vector::Vec3;
+
+// How many numbers a state, a tick and a report have.
+pub const STATE_NUMBERS: usize = state_block::STATE_BYTES / state_block::NUMBER_BYTES;
+
+pub const TICK_NUMBERS: usize = state_block::TICK_BYTES / state_block::NUMBER_BYTES;
+
+pub const REPORT_NUMBERS: usize = 3;
+
+// At which number of its array each part of a state and of a tick begins; a state's position and a tick's step begin it.
+const VELOCITY_AT: usize = state_block::VELOCITY_AT / state_block::NUMBER_BYTES;
+
+const ATTITUDE_AT: usize = state_block::ATTITUDE_AT / state_block::NUMBER_BYTES;
+
+const RATES_AT: usize = state_block::RATES_AT / state_block::NUMBER_BYTES;
+
+const MOTORS_AT: usize = state_block::MOTORS_AT / state_block::NUMBER_BYTES;
+
+const SERVOS_AT: usize = state_block::SERVOS_AT / state_block::NUMBER_BYTES;
+
+const WIND_AT: usize = state_block::WIND_AT / state_block::NUMBER_BYTES;
+
+const MOTOR_COMMANDS_AT: usize = state_block::MOTOR_COMMANDS_AT / state_block::NUMBER_BYTES;
+
+const SERVO_COMMANDS_AT: usize = state_block::SERVO_COMMANDS_AT / state_block::NUMBER_BYTES;
+
+// Of an airframe: its numbers by place, and then at which number the falloff's kind, the wash's flag, the motors' marks, their
+// torques and the surfaces' weights begin. What a later airframe has besides comes after them.
+pub const KIND_AT: usize = airframe::NUMBERS;
+
+pub const WASH_AT: usize = KIND_AT + 1;
+
+pub const USED_AT: usize = WASH_AT + 1;
+
+pub const TORQUES_AT: usize = USED_AT + 8;
+
+pub const WEIGHTS_AT: usize = TORQUES_AT + 3 * 8;
+
+pub const AIRFRAME_NUMBERS: usize = WEIGHTS_AT + 3 * 8;
+
+// The vector whose three numbers stand at `at`.
+fn vec_in(xs: &[f32], at: usize) -> Vec3
+    requires { do ⌜ at + 3 ≤ (← ⟦xs.len()⟧) ⌝ }
+    ensures { λ r. ⌜ r ≡ FlightArray.vecIn (now (xs .entry)) at ⌝ }
+{
+    Vec3 {
+        x: xs[at],
+        y: xs[at + 1],
+        z: xs[at + 2],
+    }
+}
+
+// The attitude whose numbers w, i, j, k stand at `at`.
+fn quat_in(xs: &[f32], at: usize) -> Quaternion
+    requires { do ⌜ at + 4 ≤ (← ⟦xs.len()⟧) ⌝ }
+    ensures { λ r. ⌜ r ≡ FlightArray.quatIn (now (xs .entry)) at ⌝ }
+{
+    Quaternion {
+        w: xs[at],
+        i: xs[at + 1],
+        j: xs[at + 2],
+        k: xs[at + 3],
+    }
+}
+
+// The 8 slots' numbers that stand at `at`.
+fn slots_in(xs: &[f32], at: usize) -> [f32; 8]
+    requires { do ⌜ at + 8 ≤ (← ⟦xs.len()⟧) ⌝ }
+    ensures { λ r. ⌜ r ≡ FlightArray.slotsIn (now (xs .entry)) at ⌝ }
+{
+    [
+        xs[at],
+        xs[at + 1],
+        xs[at + 2],
+        xs[at + 3],
+        xs[at + 4],
+        xs[at + 5],
+        xs[at + 6],
+        xs[at + 7],
+    ]
+}
+
+// The state of an array.
+pub fn flight_in(xs: &[f32]) -> Flight
+    requires { do ⌜ FlightArray.stateNumbers ≤ (← ⟦xs.len()⟧) ⌝ }
+    ensures { λ r. ⌜ r ≡ FlightArray.flightIn (now (xs .entry)) ⌝ }
+{
+    let position_ned_m = vec_in(xs, 0);
+    let velocity_ned_mps = vec_in(xs, VELOCITY_AT);
+    let attitude = quat_in(xs, ATTITUDE_AT);
+    let angular_velocity_radps = vec_in(xs, RATES_AT);
+    let motors = slots_in(xs, MOTORS_AT);
+    let servos = slots_in(xs, SERVOS_AT);
+    let body = Body {
+        position_ned_m,
+        velocity_ned_mps,
+        attitude,
+        angular_velocity_radps,
+    };
+    Flight {
+        body,
+        motors,
+        servos,
+    }
+}
+
+// The tick of an array.
+pub fn tick_in(xs: &[f32]) -> Tick
+    requires { do ⌜ FlightArray.tickNumbers ≤ (← ⟦xs.len()⟧) ⌝ }
+    ensures { λ r. ⌜ r ≡ FlightArray.tickIn (now (xs .entry)) ⌝ }
+{
+    let wind_ned_mps = vec_in(xs, WIND_AT);
+    let motors = slots_in(xs, MOTOR_COMMANDS_AT);
+    let servos = slots_in(xs, SERVO_COMMANDS_AT);
+    Tick {
+        step_s: xs[0],
+        wind_ned_mps,
+        motors,
+        servos,
+    }
+}
+
+// A state's numbers in the state block's order.
+pub fn flight_numbers(f: Flight) -> [f32; STATE_NUMBERS]
+    ensures { λ r. ⌜ r ≡ FlightArray.flightNumbers f ⌝ }
+{
+    let b = f.body;
+    let p = b.position_ned_m;
+    let v = b.velocity_ned_mps;
+    let a = b.attitude;
+    let o = b.angular_velocity_radps;
+    let m = f.motors;
+    let s = f.servos;
+    [
+        p.x,
+        p.y,
+        p.z,
+        v.x,
+        v.y,
+        v.z,
+        a.w,
+        a.i,
+        a.j,
+        a.k,
+        o.x,
+        o.y,
+        o.z,
+        m[0],
+        m[1],
+        m[2],
+        m[3],
+        m[4],
+        m[5],
+        m[6],
+        m[7],
+        s[0],
+        s[1],
+        s[2],
+        s[3],
+        s[4],
+        s[5],
+        s[6],
+        s[7],
+    ]
+}
+
+// The state's numbers into an array of as many.
+pub fn put_flight(xs: &mut [f32], f: Flight)
+    requires { do ⌜ (← ⟦xs.len()⟧) ≡ FlightArray.stateNumbers ⌝ }
+    ensures { λ _. ⌜ now (xs .exit) ≡ FlightArray.flightNumbers f ⌝ }
+{
+    let numbers = flight_numbers(f);
+    let mut i = 0usize;
+    while i < STATE_NUMBERS {
+        xs[i] = numbers[i];
+        i += 1;
+    }
+}
+
+// 0 for a zero of either sign, else 1.
+fn kind_of(x: f32) -> u8
+    ensures { λ r. ⌜ r ≡ AirframeArray.kindOf x ⌝ }
+{
+    if x == 0.0 { 0 } else { 1 }
+}
+
+fn is_set(x: f32) -> bool
+    ensures { λ r. ⌜ r ≡ AirframeArray.isSet x ⌝ }
+{
+    !(x == 0.0)
+}
+
+// The numbers by place.
+fn places_in(xs: &[f32]) -> [f32; NUMBERS]
+    requires { do ⌜ numbersCount ≤ (← ⟦xs.len()⟧) ⌝ }
+    ensures { λ r. ⌜ r ≡ AirframeArray.placesIn (now (xs .entry)) ⌝ }
+{
+    let mut places = [0.0; NUMBERS];
+    let mut k = 0usize;
+    while k < NUMBERS {
+        places[k] = xs[k];
+        k += 1;
+    }
+    places
+}
+
+// The motors' marks.
+fn flags_in(xs: &[f32]) -> [bool; 8]
+    requires { do ⌜ AirframeArray.torquesAt ≤ (← ⟦xs.len()⟧) ⌝ }
+    ensures { λ r. ⌜ r ≡ AirframeArray.flagsIn (now (xs .entry)) ⌝ }
+{
+    let mut flags = [false; 8];
+    let mut k = 0usize;
+    while k < 8 {
+        flags[k] = is_set(xs[USED_AT + k]);
+        k += 1;
+    }
+    flags
+}
+
+// The 8 slots' vectors that stand at `at`.
+fn vecs_in(xs: &[f32], at: usize) -> [Vec3; 8]
+    requires { do ⌜ at + 24 ≤ (← ⟦xs.len()⟧) ⌝ }
+    ensures { λ r. ⌜ r ≡ AirframeArray.vecsIn (now (xs .entry)) at ⌝ }
+{
+    let mut vecs = [Vec3::zeros(); 8];
+    let mut k = 0usize;
+    while k < 8 {
+        vecs[k] = vec_in(xs, at + 3 * k);
+        k += 1;
+    }
+    vecs
+}
+
+// The motors along body x.
+fn motors_in(xs: &[f32], places: [f32; NUMBERS]) -> MotorGroup
+    requires { do ⌜ AirframeArray.weightsAt ≤ (← ⟦xs.len()⟧) ⌝ }
+    ensures { λ r. ⌜ r ≡ AirframeArray.motorsIn (now (xs .entry)) places ⌝ }
+{
+    let layout = airframe_block::layout_of(places);
+    let used = flags_in(xs);
+    let torque_per_thrust_m = vecs_in(xs, TORQUES_AT);
+    MotorGroup {
+        layout,
+        time_constant_s: places[38],
+        used,
+        torque_per_thrust_m,
+    }
+}
+
+// The airframe of an array of numbers.
+pub fn airframe_in(xs: &[f32]) -> Airframe
+    requires { do ⌜ AirframeArray.airframeNumbersCount ≤ (← ⟦xs.len()⟧) ⌝ }
+    ensures { λ r. ⌜ r ≡ AirframeArray.airframeIn (now (xs .entry)) ⌝ }
+{
+    let places = places_in(xs);
+    let model = airframe_block::model_of(places, kind_of(xs[KIND_AT]));
+    let wash = airframe_block::wash_from(places);
+    let wash_present = is_set(xs[WASH_AT]);
+    let motors = motors_in(xs, places);
+    let weights = vecs_in(xs, WEIGHTS_AT);
+    Airframe {
+        model,
+        wash_present,
+        wash,
+        motors,
+        weights,
+    }
+}
+
+// The lowest place out of range of the airframe of an array, by the array's own numbers; 0 where it is accepted.
+pub fn refused_place(xs: &[f32]) -> u32
+    requires { do ⌜ AirframeArray.airframeNumbersCount ≤ (← ⟦xs.len()⟧) ⌝ }
+    ensures { λ r. ⌜ r ≡ refusedPlace (AirframeArray.airframeIn (now (xs .entry))) ⌝ }
+{
+    let places = places_in(xs);
+    let falloff = airframe_block::falloff_of(kind_of(xs[KIND_AT]), places[36]);
+    let wash_present = is_set(xs[WASH_AT]);
+    let torques = vecs_in(xs, TORQUES_AT);
+    let weights = vecs_in(xs, WEIGHTS_AT);
+    airframe::first_refused(places, falloff, wash_present, true, torques, weights)
+}
+
+fn flag_number(b: bool) -> f32
+    ensures { λ r. ⌜ r ≡ AirframeArray.flagNumber b ⌝ }
+{
+    if b { 1.0 } else { 0.0 }
+}
+
+fn kind_number(falloff: ThrustFalloff) -> f32
+    ensures { λ r. ⌜ r ≡ AirframeArray.kindNumber falloff ⌝ }
+{
+    match falloff {
+        ThrustFalloff::Linear(_) => 0.0,
+        ThrustFalloff::PitchSpeed(_) => 1.0,
+    }
+}
+
+// Number k of the 8 slots' vectors.
+fn vecs_number(vecs: [Vec3; 8], k: usize) -> f32
+    requires { ⌜ k < 24 ⌝ }
+    ensures { λ r. ⌜ r ≡ AirframeArray.vecsNumber vecs k ⌝ }
+{
+    let v = vecs[k / 3];
+    let axis = k % 3;
+    if axis == 0 {
+        return v.x;
+    }
+    if axis == 1 {
+        return v.y;
+    }
+    v.z
+}
+
+// The number of place k + 1.
+fn place_number(a: Airframe, k: usize) -> f32
+    requires { ⌜ k < numbersCount ⌝ }
+    ensures { λ r. ⌜ r ≡ at (numbersOf a) k ⌝ }
+{
+    let places = a.numbers();
+    places[k]
+}
+
+// Whether motor k is used, as a number.
+fn used_number(a: Airframe, k: usize) -> f32
+    requires { ⌜ k < 8 ⌝ }
+    ensures { λ r. ⌜ r ≡ AirframeArray.flagNumber (flagAt (a .motors .used) k) ⌝ }
+{
+    let group = a.motors;
+    let used = group.used;
+    flag_number(used[k])
+}
+
+// Number k of the airframe's array.
+fn airframe_number(a: Airframe, k: usize) -> f32
+    requires { ⌜ k < AirframeArray.airframeNumbersCount ⌝ }
+    ensures { λ r. ⌜ r ≡ AirframeArray.airframeNumber a k ⌝ }
+{
+    let m = a.model;
+    let falloff = m.thrust_falloff;
+    let group = a.motors;
+    let torques = group.torque_per_thrust_m;
+    let weights = a.weights;
+    if k < KIND_AT {
+        return place_number(a, k);
+    }
+    if k < WASH_AT {
+        return kind_number(falloff);
+    }
+    if k < USED_AT {
+        return flag_number(a.wash_present);
+    }
+    if k < TORQUES_AT {
+        return used_number(a, k - USED_AT);
+    }
+    if k < WEIGHTS_AT {
+        return vecs_number(torques, k - TORQUES_AT);
+    }
+    vecs_number(weights, k - WEIGHTS_AT)
+}
+
+// The airframe's numbers into an array of their count.
+pub fn put_airframe(xs: &mut [f32], a: Airframe)
+    requires { do ⌜ (← ⟦xs.len()⟧) ≡ AirframeArray.airframeNumbersCount ⌝ }
+    ensures { λ _. ⌜ now (xs .exit) ≡ AirframeArray.airframeNumbers a ⌝ }
+{
+    let mut k = 0usize;
+    while k < AIRFRAME_NUMBERS {
+        xs[k] = airframe_number(a, k);
+        k += 1;
+    }
+}

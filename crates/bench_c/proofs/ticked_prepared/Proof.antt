@@ -1,0 +1,38 @@
+-- `bench_c::ticked_prepared` meets its contract: the refused place of the numbers is the airframe's own. Assumes nothing.
+use Rattle.wing.specs.Tick.{tickOf}
+use Rattle.ordered.proofs.Ordered.{some-eqb}
+use mathlib.Core.Path.{_∙_, sym}
+use borrow.Author.Needs.{needs}
+use Rattle.bench_c.proofs.ticked_prepared.Statement.{statement}
+use Rattle.bench_c.proofs.ticked_prepared.Tie as tie
+
+refused-place-requires : tie.Need-refused-place-requires
+refused-place-requires c κs = search needs
+
+airframe-in-requires : tie.Need-airframe-in-requires
+airframe-in-requires c κs = search needs
+
+tick-accepted-requires : tie.Need-tick-accepted-requires
+tick-accepted-requires c κs = search needs
+
+returns : tie.Need-returns
+unfolding tickOf
+returns c = simp (c .tick-accepted .ensures, c .before .airframe-in .ensures, sym (c .before .before .before .refused-place .ensures) ∙ c .before .before .if1 .taken)
+
+refused-requires : tie.Need-refused-requires
+refused-requires c κs = search needs
+
+returns-2 : tie.Need-returns-2
+unfolding tickOf
+returns-2 c = simp (c .refused .ensures, c .before .before .refused-place .ensures, some-eqb _ (λ e. c .before .if1 .left (c .before .before .refused-place .ensures ∙ e)))
+
+pub ticked-prepared-spec : {M : Type 1} → statement M
+ticked-prepared-spec =
+    tie.close
+    (tie.spec
+    refused-place-requires
+    airframe-in-requires
+    tick-accepted-requires
+    returns
+    refused-requires
+    returns-2)

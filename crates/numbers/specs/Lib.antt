@@ -1,3 +1,0 @@
--- Rows of numbers. Definitions only.
-pub mod Flight
-pub mod Airframe

@@ -1,0 +1,2 @@
+-- Laws of tests in a row.
+pub mod Ordered

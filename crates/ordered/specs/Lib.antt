@@ -1,0 +1,3 @@
+-- Tests in a row.
+pub mod Ordered
+pub mod Contracts

@@ -1,0 +1,36 @@
+-- `wing::tick_accepted` meets its contract. Assumes nothing.
+use Rattle.wing.specs.Tick.{acceptedTick}
+use mathlib.Core.Path.{_∙_, sym}
+use borrow.Author.Needs.{needs}
+use Rattle.wing.proofs.tick_accepted.Statement.{statement}
+use Rattle.wing.proofs.tick_accepted.Tie as tie
+
+is-inside-requires : tie.Need-is-inside-requires
+is-inside-requires c κs = search needs
+
+begin-requires : tie.Need-begin-requires
+begin-requires c κs = search needs
+
+tick-inside-requires : tie.Need-tick-inside-requires
+tick-inside-requires c κs = (sym (c .before .before .is-inside .ensures) ∙ c .before .if1 .taken, c .begin .ensures)
+
+returns : tie.Need-returns
+returns c = search needs
+
+refused-requires : tie.Need-refused-requires
+refused-requires c κs = search needs
+
+returns-2 : tie.Need-returns-2
+unfolding acceptedTick
+returns-2 c = simp (c .refused .ensures, sym (c .before .before .is-inside .ensures) ∙ c .before .if1 .left)
+
+pub tick-accepted-spec : {M : Type 1} → statement M
+tick-accepted-spec =
+    tie.close
+    (tie.spec
+    is-inside-requires
+    begin-requires
+    tick-inside-requires
+    returns
+    refused-requires
+    returns-2)
