@@ -6,7 +6,7 @@ use lib.Dec.{eqb, ltb}
 use lib.Ieee.{Float, eq}
 use mathlib.Core.Bool.{Bool, cond, not}
 use mathlib.Core.List.{List}
-use Rattle.airframe.specs.Numbers.{numbersCount, numbersOf}
+use Rattle.airframe.specs.Numbers.{numbersCount, numbersOf, washCount, washFirst}
 use Rattle.airframe.specs.declared.Airframe.{Airframe}
 use Rattle.airframe_block.specs.Block.{layoutOf, modelOf, motorConstant, washFrom}
 use Rattle.mixers.specs.Slots.{at, flagAt, listOf, slots, vecAt as slotVec}
@@ -17,9 +17,9 @@ use Rattle.motors.specs.declared.MotorGroup.{MotorGroup}
 use Rattle.vector.specs.declared.Vec3.{Vec3}
 use Rattle.arrays.specs.Flight.{vecIn}
 
--- at which number each part begins: the numbers by place begin it
+-- at which number each part begins: the numbers of the base and of the wash begin it
 abbrev pub kindAt : ℕ
-kindAt = numbersCount
+kindAt = washFirst + washCount
 
 abbrev pub washAt : ℕ
 washAt = kindAt + 1

@@ -43,7 +43,7 @@ const SERVO_COMMANDS_AT: usize = state_block::SERVO_COMMANDS_AT / state_block::N
 
 // Of an airframe: its numbers by place, and then at which number the falloff's kind, the wash's flag, the motors' marks, their
 // torques and the surfaces' weights begin. What a later airframe has besides comes after them.
-pub const KIND_AT: usize = airframe::NUMBERS;
+pub const KIND_AT: usize = airframe::WASH_FIRST + airframe::WASH_COUNT;
 
 pub const WASH_AT: usize = KIND_AT + 1;
 
