@@ -2,6 +2,7 @@
 //!
 //! An array of another length does not compile; blocks and traces are bytes of any
 //! length, and the bench answers for them. An [`Airframe`] is one that the bench has accepted.
+//! Every call is made in the default float environment, whatever the caller's is.
 
 // A program may call only some of it.
 #![allow(dead_code, unused_imports)]
@@ -9,14 +10,15 @@
 use std::error::Error;
 use std::fmt;
 
-// How many numbers an array and how many bytes a block has.
+// How many numbers an array and how many bytes a block has; the answers and places by name.
 include!("lengths.rs");
 
-/// Position 3 and velocity 3 (north, east, down; m and m/s), attitude w i j k, body rates p q r
-/// (rad/s), running motors 8, running servos 8.
+/// In order: position and velocity (north, east, down; m, m/s), the attitude's w, i, j, k, the
+/// rates p, q, r (rad/s), and the running values of 8 motors and of 8 servos.
 pub type State = [f32; STATE_NUMBERS];
 
-/// Step (s), wind 3 (north, east, down; m/s), motor commands 8, servo commands 8.
+/// In order: the step (s), the wind (north, east, down; m/s), and the commands of 8 motors and of
+/// 8 servos.
 pub type Tick = [f32; TICK_NUMBERS];
 
 /// What the bench answers.
@@ -52,6 +54,22 @@ impl Answer {
         }
     }
 
+    /// Its number, as in a reply.
+    pub fn number(self) -> usize {
+        match self {
+            Answer::Done => 0,
+            Answer::WrongLength => 1,
+            Answer::WrongVersion => 2,
+            Answer::WrongFalloff => 3,
+            Answer::ReservedBit => 4,
+            Answer::TooManyRows => 5,
+            Answer::NumberOutOfRange { .. } => 6,
+            Answer::StateOutside => 7,
+            Answer::StepOutside => 8,
+            Answer::Departure => 9,
+        }
+    }
+
     /// `Ok` where the bench is done, the answer where it refuses.
     fn refused(reply: u64) -> Result<(), Answer> {
         match Answer::of(reply) {
@@ -61,21 +79,21 @@ impl Answer {
     }
 }
 
+/// The name of a place; "unknown place" for a number that is none.
+pub fn place_name(place: u64) -> &'static str {
+    let mut numbered = (1..).zip(PLACES);
+    let found = numbered.find(|(number, _)| *number == place);
+    found.map_or("unknown place", |(_, name)| name)
+}
+
 impl fmt::Display for Answer {
     fn fmt(&self, f: &mut fmt::Formatter<'_>) -> fmt::Result {
+        f.write_str(ANSWERS[self.number()])?;
         match self {
-            Answer::Done => f.write_str("done"),
-            Answer::WrongLength => f.write_str("wrong length"),
-            Answer::WrongVersion => f.write_str("first four bits not 1"),
-            Answer::WrongFalloff => f.write_str("falloff kind 2 or 3"),
-            Answer::ReservedBit => f.write_str("a reserved bit set"),
-            Answer::TooManyRows => f.write_str("row count above 16"),
             Answer::NumberOutOfRange { place } => {
-                write!(f, "airframe number out of range, place {place}")
+                write!(f, ", place {place} ({})", place_name(*place))
             }
-            Answer::StateOutside => f.write_str("state outside the envelope"),
-            Answer::StepOutside => f.write_str("step not in 1/1024..0.02 s"),
-            Answer::Departure => f.write_str("next state outside the envelope (departure)"),
+            _ => Ok(()),
         }
     }
 }
@@ -104,11 +122,26 @@ pub fn read_state(block: &[u8]) -> Result<State, Answer> {
     Ok(state)
 }
 
-/// The block of a state. Its numbers are not tested.
+/// The block of a state, whose numbers are written untested.
 pub fn write_state(state: &State) -> [u8; STATE_BYTES] {
     let mut block = [0; STATE_BYTES];
     // Both lengths are right, so it is never refused.
     raw::write_state(state, &mut block);
+    block
+}
+
+/// Reads a tick block. Its numbers are not tested.
+pub fn read_tick(block: &[u8]) -> Result<Tick, Answer> {
+    let mut tick = [0.0; TICK_NUMBERS];
+    Answer::refused(raw::read_tick(block, &mut tick))?;
+    Ok(tick)
+}
+
+/// The block of a tick. Its numbers are not tested.
+pub fn write_tick(tick: &Tick) -> [u8; TICK_BYTES] {
+    let mut block = [0; TICK_BYTES];
+    // Both lengths are right, so it is never refused.
+    raw::write_tick(tick, &mut block);
     block
 }
 
@@ -159,8 +192,8 @@ impl Airframe {
         })
     }
 
-    /// Flies the trace, tick blocks one after another, from `state`. A refused tick
-    /// leaves the state and the next one follows; only a trace that is not whole ticks is refused.
+    /// Flies the trace, tick blocks one after another, from `state`. A refused tick does not end
+    /// the run; only a trace that is not whole ticks is refused.
     pub fn run(&self, state: &State, trace: &[u8]) -> Result<Ran, Answer> {
         let (mut state, mut accepted) = (*state, 0);
         Answer::refused(raw::run(&self.block, &mut state, trace, &mut accepted))?;
@@ -178,9 +211,73 @@ impl Airframe {
     }
 }
 
+/// Whether the float environment is the default, so that the calls have nothing to set.
+pub fn float_environment_is_default() -> bool {
+    guard::is_default(guard::control_word())
+}
+
+/// The float environment that the library needs: rounding to nearest even, subnormals kept,
+/// exceptions masked.
+mod guard {
+    use std::arch::asm;
+
+    /// The control word MXCSR of the default, but for its six flags.
+    const DEFAULT: u32 = 0x1F80;
+    const FLAGS: u32 = 0x3F;
+
+    pub fn control_word() -> u32 {
+        let mut word = 0;
+        // Writes the four bytes of the word.
+        unsafe { asm!("stmxcsr [{}]", in(reg) &mut word, options(nostack, preserves_flags)) };
+        word
+    }
+
+    pub fn is_default(word: u32) -> bool {
+        word & !FLAGS == DEFAULT
+    }
+
+    extern "C" fn make(call: &mut &mut dyn FnMut()) {
+        call();
+    }
+
+    /// Makes the call in the default, and puts `was` back, all in one block of assembly: Rust lets
+    /// none end with another control word, and nothing of the caller's can be moved into it.
+    #[cold]
+    #[inline(never)]
+    fn switched(was: u32, mut call: &mut dyn FnMut()) {
+        // `make` is called as C calls; r12 lives through it, and the stack is aligned here.
+        unsafe {
+            asm!(
+                "ldmxcsr [{default}]",
+                "call {make}",
+                "ldmxcsr [r12]",
+                default = in(reg) &DEFAULT,
+                make = sym make,
+                in("rdi") &mut call,
+                in("r12") &was,
+                clobber_abi("C"),
+            )
+        };
+    }
+
+    /// A call of the library in the default. Where it is in force, nothing is set.
+    #[inline]
+    pub fn guarded<R: Default>(mut call: impl FnMut() -> R) -> R {
+        let was = control_word();
+        if is_default(was) {
+            return call();
+        }
+        let mut result = R::default();
+        switched(was, &mut || result = call());
+        result
+    }
+}
+
 /// The library's calls over slices of any length. Each gives the bench's reply: 1 for an array of
 /// another length, which leaves what was lent as found. include/bench.h says what each call does.
 pub mod raw {
+    use super::guard::guarded;
+
     mod library {
         unsafe extern "C" {
             pub fn bench_read_airframe(block: *const u8, block_len: usize) -> u64;
@@ -199,6 +296,18 @@ pub mod raw {
             pub fn bench_write_state(
                 state: *const f32,
                 state_len: usize,
+                block: *mut u8,
+                block_len: usize,
+            ) -> u64;
+            pub fn bench_read_tick(
+                block: *const u8,
+                block_len: usize,
+                tick: *mut f32,
+                tick_len: usize,
+            ) -> u64;
+            pub fn bench_write_tick(
+                tick: *const f32,
+                tick_len: usize,
                 block: *mut u8,
                 block_len: usize,
             ) -> u64;
@@ -252,33 +361,69 @@ pub mod raw {
         }
     }
 
-    pub use library::{bench_asinf as asinf, bench_atan2f as atan2f, bench_cosf as cosf};
-    pub use library::{bench_expf as expf, bench_sinf as sinf, bench_sqrtf as sqrtf};
+    pub fn sqrtf(x: f32) -> f32 {
+        guarded(|| library::bench_sqrtf(x))
+    }
+
+    pub fn expf(x: f32) -> f32 {
+        guarded(|| library::bench_expf(x))
+    }
+
+    pub fn sinf(x: f32) -> f32 {
+        guarded(|| library::bench_sinf(x))
+    }
+
+    pub fn cosf(x: f32) -> f32 {
+        guarded(|| library::bench_cosf(x))
+    }
+
+    pub fn asinf(s: f32) -> f32 {
+        guarded(|| library::bench_asinf(s))
+    }
+
+    pub fn atan2f(y: f32, x: f32) -> f32 {
+        guarded(|| library::bench_atan2f(y, x))
+    }
 
     // In every call below: a slice's pointer is never null and lies with its length in memory lent
     // for the call, the borrows keep the buffers apart, and the library keeps no pointer.
 
     pub fn read_airframe(block: &[u8]) -> u64 {
-        unsafe { library::bench_read_airframe(block.as_ptr(), block.len()) }
+        guarded(|| unsafe { library::bench_read_airframe(block.as_ptr(), block.len()) })
     }
 
     pub fn prepare(block: &[u8], airframe: &mut [f32]) -> u64 {
+        let (bytes, length) = (block.as_ptr(), block.len());
         let (array, numbers) = (airframe.as_mut_ptr(), airframe.len());
-        unsafe { library::bench_prepare(block.as_ptr(), block.len(), array, numbers) }
+        guarded(|| unsafe { library::bench_prepare(bytes, length, array, numbers) })
     }
 
     pub fn read_state(block: &[u8], state: &mut [f32]) -> u64 {
+        let (bytes, length) = (block.as_ptr(), block.len());
         let (array, numbers) = (state.as_mut_ptr(), state.len());
-        unsafe { library::bench_read_state(block.as_ptr(), block.len(), array, numbers) }
+        guarded(|| unsafe { library::bench_read_state(bytes, length, array, numbers) })
     }
 
     pub fn write_state(state: &[f32], block: &mut [u8]) -> u64 {
-        let (bytes, count) = (block.as_mut_ptr(), block.len());
-        unsafe { library::bench_write_state(state.as_ptr(), state.len(), bytes, count) }
+        let (array, numbers) = (state.as_ptr(), state.len());
+        let (bytes, length) = (block.as_mut_ptr(), block.len());
+        guarded(|| unsafe { library::bench_write_state(array, numbers, bytes, length) })
+    }
+
+    pub fn read_tick(block: &[u8], tick: &mut [f32]) -> u64 {
+        let (bytes, length) = (block.as_ptr(), block.len());
+        let (array, numbers) = (tick.as_mut_ptr(), tick.len());
+        guarded(|| unsafe { library::bench_read_tick(bytes, length, array, numbers) })
+    }
+
+    pub fn write_tick(tick: &[f32], block: &mut [u8]) -> u64 {
+        let (array, numbers) = (tick.as_ptr(), tick.len());
+        let (bytes, length) = (block.as_mut_ptr(), block.len());
+        guarded(|| unsafe { library::bench_write_tick(array, numbers, bytes, length) })
     }
 
     pub fn tick(airframe: &[u8], state: &mut [f32], tick: &[f32], report: &mut [f32]) -> u64 {
-        unsafe {
+        guarded(|| unsafe {
             library::bench_tick(
                 airframe.as_ptr(),
                 airframe.len(),
@@ -289,7 +434,7 @@ pub mod raw {
                 report.as_mut_ptr(),
                 report.len(),
             )
-        }
+        })
     }
 
     pub fn tick_prepared(
@@ -298,7 +443,7 @@ pub mod raw {
         tick: &[f32],
         report: &mut [f32],
     ) -> u64 {
-        unsafe {
+        guarded(|| unsafe {
             library::bench_tick_prepared(
                 airframe.as_ptr(),
                 airframe.len(),
@@ -309,11 +454,11 @@ pub mod raw {
                 report.as_mut_ptr(),
                 report.len(),
             )
-        }
+        })
     }
 
     pub fn run(airframe: &[u8], state: &mut [f32], trace: &[u8], accepted: &mut u64) -> u64 {
-        unsafe {
+        guarded(|| unsafe {
             library::bench_run(
                 airframe.as_ptr(),
                 airframe.len(),
@@ -323,7 +468,7 @@ pub mod raw {
                 trace.len(),
                 accepted,
             )
-        }
+        })
     }
 
     /// The counts are those of the run and of its reflection.
@@ -335,7 +480,7 @@ pub mod raw {
         accepted: &mut [u64; 2],
     ) -> u64 {
         let [first, second] = accepted;
-        unsafe {
+        guarded(|| unsafe {
             library::bench_mirrored_pair(
                 airframe.as_ptr(),
                 airframe.len(),
@@ -348,6 +493,6 @@ pub mod raw {
                 first,
                 second,
             )
-        }
+        })
     }
 }

@@ -1,5 +1,5 @@
-/* Flies a sample flight through the library: example FILE. Prints the number of accepted ticks and
- * the end state's 29 numbers as hex bits, any zero as 00000000. */
+/* Flies a sample flight through the library, whatever the float environment is: example FILE. Prints the number of accepted ticks
+ * and the end state's 29 numbers as hex bits, any zero as 00000000. */
 #include <inttypes.h>
 #include <stdio.h>
 #include <stdlib.h>
@@ -12,7 +12,10 @@ static uint8_t bytes[MOST];
 
 static void stop(const char *why, uint64_t reply)
 {
-    fprintf(stderr, "%s: answer %u, place %u\n", why, bench_answer(reply), bench_place(reply));
+    fprintf(stderr, "%s: %s", why, bench_answer_text(bench_answer(reply)));
+    if (bench_place(reply) != 0)
+        fprintf(stderr, ", place %u (%s)", bench_place(reply), bench_place_name(bench_place(reply)));
+    fprintf(stderr, "\n");
     exit(1);
 }
 
@@ -25,13 +28,6 @@ static size_t read_file(const char *name)
     return count;
 }
 
-/* The airframe block's length, as its header gives it. */
-static size_t airframe_length(void)
-{
-    size_t wash = bytes[0] & 2 ? BENCH_WASH_BYTES : 0;
-    return BENCH_AIRFRAME_BYTES + wash + BENCH_ROW_BYTES * (size_t)(bytes[1] & 31);
-}
-
 static void print_number(float number)
 {
     uint32_t bits = 0;
@@ -42,15 +38,19 @@ static void print_number(float number)
 
 int main(int count, char **arguments)
 {
-    size_t length = count == 2 ? read_file(arguments[1]) : 0, at = airframe_length();
+    size_t length = count == 2 ? read_file(arguments[1]) : 0, at = bench_airframe_length(bytes);
     float state[BENCH_STATE_NUMBERS];
     uint64_t accepted, reply;
+    if (at == 0)
+        stop("the airframe is refused", BENCH_TOO_MANY_ROWS);
     if (length < at + BENCH_STATE_BYTES)
         stop("no whole airframe and state; usage: example FILE", BENCH_WRONG_LENGTH);
-    if ((reply = bench_read_state(bytes + at, BENCH_STATE_BYTES, state, BENCH_STATE_NUMBERS)) != 0)
+    if ((reply = bench_guarded_read_airframe(bytes, at)) != 0)
+        stop("the airframe is refused", reply);
+    if ((reply = bench_guarded_read_state(bytes + at, BENCH_STATE_BYTES, state, BENCH_STATE_NUMBERS)) != 0)
         stop("the state is refused", reply);
     const uint8_t *trace = bytes + at + BENCH_STATE_BYTES;
-    reply = bench_run(bytes, at, state, BENCH_STATE_NUMBERS, trace, length - at - BENCH_STATE_BYTES, &accepted);
+    reply = bench_guarded_run(bytes, at, state, BENCH_STATE_NUMBERS, trace, length - at - BENCH_STATE_BYTES, &accepted);
     if (reply != 0)
         stop("the run is refused", reply);
     printf("%" PRIu64 " accepted, end state", accepted);

@@ -2,12 +2,13 @@
 //! and the end state's 29 numbers as hex bits, any zero as 00000000.
 
 use std::error::Error;
+use std::process::ExitCode;
 
 fn word(number: f32) -> String {
     format!(" {:08X}", if number == 0.0 { 0 } else { number.to_bits() })
 }
 
-fn main() -> Result<(), Box<dyn Error>> {
+fn fly() -> Result<(), Box<dyn Error>> {
     let file = std::env::args().nth(1).ok_or("usage: example FILE")?;
     let bytes = std::fs::read(file)?;
     let length = bench::airframe_length(&bytes).unwrap_or(0);
@@ -22,4 +23,14 @@ fn main() -> Result<(), Box<dyn Error>> {
     let words: String = ran.state.map(word).concat();
     println!("{} accepted, end state{words}", ran.accepted);
     Ok(())
+}
+
+fn main() -> ExitCode {
+    match fly() {
+        Ok(()) => ExitCode::SUCCESS,
+        Err(why) => {
+            eprintln!("{why}");
+            ExitCode::FAILURE
+        }
+    }
 }

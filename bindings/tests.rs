@@ -1,7 +1,14 @@
-//! The Rust wrapper on a sample flight and on refused blocks: `tests` with BENCH_SAMPLE naming the
-//! flight's file.
+//! The library through the Rust wrapper: `tests` with BENCH_SAMPLE naming a sample flight and
+//! BENCH_SCOPE the page with the limits. Here a flight and refused blocks; beside, the rest.
 
-use bench::{Airframe, Answer, STATE_BYTES, State, TICK_BYTES, Tick};
+#[path = "tests/environments.rs"]
+mod environments;
+#[path = "tests/limits.rs"]
+mod limits;
+#[path = "tests/nans.rs"]
+mod nans;
+
+use bench::{Airframe, Answer, STATE_BYTES, State, TICK_BYTES, TICK_NUMBERS, raw};
 
 struct Sample {
     airframe: Airframe,
@@ -24,19 +31,13 @@ fn sample() -> Sample {
     }
 }
 
-fn tick(block: &[u8]) -> Tick {
-    std::array::from_fn(|at| {
-        let word = &block[4 * at..4 * at + 4];
-        f32::from_be_bytes([word[0], word[1], word[2], word[3]])
-    })
-}
-
 #[test]
 fn ticks_end_where_the_run_ends() {
     let sample = sample();
     let (mut state, mut accepted) = (sample.state, 0);
     for block in sample.trace.chunks_exact(TICK_BYTES) {
-        accepted += u64::from(sample.airframe.tick(&mut state, &tick(block)).is_ok());
+        let tick = bench::read_tick(block).unwrap();
+        accepted += u64::from(sample.airframe.tick(&mut state, &tick).is_ok());
     }
     let ran = sample.airframe.run(&sample.state, &sample.trace).unwrap();
     assert_eq!((ran.state, ran.accepted), (state, accepted));
@@ -56,7 +57,7 @@ fn the_reflection_has_east_exchanged() {
 fn a_refused_tick_leaves_the_state() {
     let sample = sample();
     let mut state = sample.state;
-    let refused = sample.airframe.tick(&mut state, &[0.0; bench::TICK_NUMBERS]);
+    let refused = sample.airframe.tick(&mut state, &[0.0; TICK_NUMBERS]);
     assert_eq!(refused, Err(Answer::StepOutside));
     assert_eq!(state, sample.state);
 }
@@ -66,6 +67,29 @@ fn a_trace_that_is_not_whole_ticks_is_refused() {
     let sample = sample();
     let refused = sample.airframe.run(&sample.state, &sample.trace[1..]);
     assert_eq!(refused, Err(Answer::WrongLength));
+}
+
+/// The replies of a run and of a pair, which leave the state and count nothing.
+fn runs_refused(block: &[u8], state: &State, trace: &[u8]) -> [u64; 2] {
+    let (mut end, mut reflected, mut counts) = (*state, *state, [1; 3]);
+    let [ran, pair @ ..] = &mut counts;
+    let replies = [
+        raw::run(block, &mut end, trace, ran),
+        raw::mirrored_pair(block, &mut end, &mut reflected, trace, pair),
+    ];
+    assert_eq!((end, reflected, counts), (*state, *state, [0; 3]));
+    replies
+}
+
+#[test]
+fn a_runs_refusals_come_in_their_order() {
+    let sample = sample();
+    let good = sample.airframe.block();
+    let bad = [&[0x20], &good[1..]].concat();
+    let (whole, cut) = (&sample.trace[..], &sample.trace[1..]);
+    assert_eq!(runs_refused(&bad, &sample.state, whole), [2; 2]);
+    assert_eq!(runs_refused(good, &sample.state, cut), [1; 2]);
+    assert_eq!(runs_refused(&bad, &sample.state, cut), [1; 2]);
 }
 
 #[test]
@@ -84,12 +108,12 @@ fn refused(mut block: Vec<u8>, at: usize, byte: u8) -> String {
 fn refusals_are_named_in_words() {
     let block = sample().airframe.block().to_vec();
     let said = |at, byte| refused(block.clone(), at, byte);
-    assert_eq!(said(0, 0x20), "first four bits not 1");
-    assert_eq!(said(0, 0x18), "falloff kind 2 or 3");
-    assert_eq!(said(1, 0x20), "a reserved bit set");
-    assert_eq!(said(1, 0x11), "row count above 16");
+    assert_eq!(said(0, 0x20), "the version is not 1");
+    assert_eq!(said(0, 0x18), "the falloff kind is 2 or 3");
+    assert_eq!(said(1, 0x20), "a reserved bit is 1");
+    assert_eq!(said(1, 0x11), "more than 16 rows");
     assert_eq!(said(1, 0x00), "wrong length");
-    assert_eq!(said(2, 0xFF), "airframe number out of range, place 1");
+    assert_eq!(said(2, 0xFF), "a number of the airframe is outside its limits, place 1 (mass_kg)");
 }
 
 #[test]
@@ -97,5 +121,63 @@ fn a_state_outside_the_envelope_is_refused() {
     let mut state = sample().state;
     state[10] = 101.0;
     let refused = bench::read_state(&bench::write_state(&state)).unwrap_err();
-    assert_eq!(refused.to_string(), "state outside the envelope");
+    assert_eq!(refused.to_string(), "the state is outside the envelope");
+}
+
+/// Numbers that no tick needs to have: all are read and written, but for a NaN's bits.
+const ANY: [f32; 4] = [-0.0, f32::INFINITY, 1.0e-45, -3.4e38];
+
+#[test]
+fn a_tick_is_read_as_it_was_written() {
+    let tick: [f32; TICK_NUMBERS] = std::array::from_fn(|at| ANY[at % ANY.len()] * (at as f32 + 1.0));
+    let block = bench::write_tick(&tick);
+    let bytes = tick.iter().flat_map(|x| x.to_bits().to_be_bytes());
+    assert!(bytes.eq(block), "other bytes than the numbers'");
+    let read = bench::read_tick(&block).unwrap();
+    assert_eq!(read.map(f32::to_bits), tick.map(f32::to_bits));
+}
+
+#[test]
+fn a_tick_is_read_into_its_array_alone() {
+    let block = [0x3F; TICK_BYTES];
+    let mut room = [7.0f32; TICK_NUMBERS + 4];
+    assert_eq!(raw::read_tick(&block, &mut room[2..22]), 0);
+    let read = f32::from_bits(0x3F3F_3F3F);
+    assert_eq!((&room[..2], &room[22..]), (&[7.0; 2][..], &[7.0; 2][..]));
+    assert_eq!(room[2..22], [read; TICK_NUMBERS]);
+}
+
+#[test]
+fn a_tick_is_written_into_its_block_alone() {
+    let mut room = [7u8; TICK_BYTES + 4];
+    assert_eq!(raw::write_tick(&[f32::from_bits(0x3F3F_3F3F); TICK_NUMBERS], &mut room[2..82]), 0);
+    assert_eq!((&room[..2], &room[82..]), (&[7; 2][..], &[7; 2][..]));
+    assert_eq!(room[2..82], [0x3F; TICK_BYTES]);
+}
+
+/// A refused block gives zeros, an array of another length is left.
+#[test]
+fn a_tick_of_another_length_is_refused() {
+    let (block, tick) = ([0x3F; TICK_BYTES + 1], [0.5; TICK_NUMBERS + 1]);
+    for (bytes, numbers) in [(0, 20), (79, 20), (81, 20), (80, 0), (80, 19), (80, 21), (79, 19)] {
+        let (mut read, mut written, mut expected) = (tick, block, tick);
+        if numbers == TICK_NUMBERS {
+            expected[..numbers].fill(0.0);
+        }
+        assert_eq!(raw::read_tick(&block[..bytes], &mut read[..numbers]), 1);
+        assert_eq!(raw::write_tick(&tick[..numbers], &mut written[..bytes]), 1);
+        assert_eq!((read, written), (expected, block), "{bytes} bytes, {numbers} numbers");
+    }
+    assert_eq!(bench::read_tick(&block), Err(Answer::WrongLength));
+}
+
+#[test]
+fn answers_and_places_have_their_words() {
+    assert_eq!(bench::place_name(bench::place::DAMPING_FRACTION), "damping_fraction");
+    assert_eq!(["unknown place"; 2], [0, 52].map(bench::place_name));
+    for reply in (0..10).map(|number| number + 16 * u64::from(number == 6)) {
+        let answer = Answer::of(reply);
+        assert_eq!(answer.number() as u64, reply % 16);
+        assert!(answer.to_string().starts_with(bench::ANSWERS[answer.number()]));
+    }
 }

@@ -1,23 +1,40 @@
 /* The flight bench for C and C++: blocks, ticks, runs and the mirrored pair.
  *
- * Link target/staticlib/libbench_c.a (x86-64), which `rt staticlib bench_c` writes. It keeps no state of its own, asks for
- * no memory and calls nothing but memcpy, so calls from several threads need no lock.
+ * Link target/staticlib/libbench_c.a (x86-64), which `rt staticlib bench_c` writes. It keeps no state of its own, asks for no
+ * memory and calls nothing but memcpy, so calls from several threads need no lock.
  *
  * Rules for every call: each pointer is followed by its length, counted in elements (bytes of a block, floats of an array). A
  * pointer is never NULL, not even for length 0; an array of floats is aligned as float is. Buffers handed to one call do not
  * overlap. Every call returns, whatever the bytes and floats are, and changes nothing but what its comment names.
  *
+ * The calling thread's float environment must be the default of x86-64: rounding to nearest even, subnormals kept (neither FTZ
+ * nor DAZ), exceptions masked. In another one, such as that of a host linked with -ffast-math, numbers come out different, a
+ * pair need not mirror, and an unmasked exception ends the process; no reply tells. A caller that may be in another one uses the
+ * guarded forms at the end of this file. The calls leave raised what exception flags they raise.
+ *
  * A reply is answer + 16 * place: bench_answer and bench_place take it apart. The place is 0 but for answer 6.
+ *
+ * "As found" means bit for bit. For the bits of a NaN this is tested and not proved, since the proofs know one NaN only. A NaN
+ * that is written into a block has the bits 7FC00000; one that is read or computed is a NaN, and its bits may be any NaN's.
  */
 #ifndef BENCH_H
 #define BENCH_H
 
 #include <stddef.h>
 #include <stdint.h>
+#if defined(__x86_64__) && defined(__GNUC__)
+#include <xmmintrin.h>
+#endif
 
 #ifdef __cplusplus
 extern "C" {
 #endif
+
+/* The version of the blocks, which an airframe block's first four bits give: another one means another layout of bytes. The
+ * version of the calls: it rises where a call is added or answers otherwise. 2 has bench_read_tick and bench_write_tick, and a
+ * run looks at its trace's length before its block. */
+#define BENCH_BLOCK_VERSION 1
+#define BENCH_CALLS_VERSION 2
 
 /* How many floats each array has. */
 #define BENCH_AIRFRAME_NUMBERS 106
@@ -34,19 +51,81 @@ extern "C" {
 #define BENCH_ROW_BYTES 13
 #define BENCH_MOST_ROWS 16
 
-/* What the bench answers. */
-enum bench_answers {
-    BENCH_DONE = 0,
-    BENCH_WRONG_LENGTH = 1,
-    BENCH_WRONG_VERSION = 2,       /* first four bits not 1 */
-    BENCH_WRONG_FALLOFF = 3,       /* falloff kind 2 or 3 */
-    BENCH_RESERVED_BIT = 4,        /* a reserved bit set */
-    BENCH_TOO_MANY_ROWS = 5,       /* row count above 16 */
-    BENCH_NUMBER_OUT_OF_RANGE = 6, /* airframe number out of range; the place is its number */
-    BENCH_STATE_OUTSIDE = 7,       /* state outside the envelope */
-    BENCH_STEP_OUTSIDE = 8,        /* step not in 1/1024..0.02 s */
-    BENCH_DEPARTURE = 9            /* next state outside the envelope (departure) */
-};
+/* What the bench answers: BENCH_DONE = 0 and so on, each with its words. */
+#define BENCH_ANSWERS(ANSWER)                                                        \
+    ANSWER(0, DONE, "done")                                                          \
+    ANSWER(1, WRONG_LENGTH, "wrong length")                                          \
+    ANSWER(2, WRONG_VERSION, "the version is not 1")                                 \
+    ANSWER(3, WRONG_FALLOFF, "the falloff kind is 2 or 3")                           \
+    ANSWER(4, RESERVED_BIT, "a reserved bit is 1")                                   \
+    ANSWER(5, TOO_MANY_ROWS, "more than 16 rows")                                    \
+    ANSWER(6, NUMBER_OUT_OF_RANGE, "a number of the airframe is outside its limits") \
+    ANSWER(7, STATE_OUTSIDE, "the state is outside the envelope")                    \
+    ANSWER(8, STEP_OUTSIDE, "the step is not within 1/1024..0.02 s")                 \
+    ANSWER(9, DEPARTURE, "the next state would be outside the envelope (departure)")
+
+/* The places of answer 6: BENCH_PLACE_MASS_KG = 1 and so on, each with its name. 39 is the motors' time constant, 42 to 48 are
+ * the wash's numbers; 49 is any row's factor, 50 any motor's torque, 51 any surface's weight. docs/SCOPE.md has their limits. */
+#define BENCH_PLACES(PLACE)                                               \
+    PLACE(1, MASS_KG, "mass_kg")                                          \
+    PLACE(2, INERTIA_KGM2_ROLL, "inertia_kgm2 roll")                      \
+    PLACE(3, INERTIA_KGM2_PITCH, "inertia_kgm2 pitch")                    \
+    PLACE(4, INERTIA_KGM2_YAW, "inertia_kgm2 yaw")                        \
+    PLACE(5, WING_AREA_M2, "wing_area_m2")                                \
+    PLACE(6, SPAN_M, "span_m")                                            \
+    PLACE(7, CHORD_M, "chord_m")                                          \
+    PLACE(8, C_LIFT_0, "c_lift_0")                                        \
+    PLACE(9, C_LIFT_ALPHA, "c_lift_alpha")                                \
+    PLACE(10, ALPHA_STALL_RAD, "alpha_stall_rad")                         \
+    PLACE(11, STALL_SHARPNESS, "stall_sharpness")                         \
+    PLACE(12, C_DRAG_0, "c_drag_0")                                       \
+    PLACE(13, OSWALD, "oswald")                                           \
+    PLACE(14, C_SIDE_BETA, "c_side_beta")                                 \
+    PLACE(15, C_SIDE_RUDDER, "c_side_rudder")                             \
+    PLACE(16, C_ROLL_BETA, "c_roll_beta")                                 \
+    PLACE(17, C_ROLL_P, "c_roll_p")                                       \
+    PLACE(18, C_ROLL_R, "c_roll_r")                                       \
+    PLACE(19, C_ROLL_AILERON, "c_roll_aileron")                           \
+    PLACE(20, C_ROLL_RUDDER, "c_roll_rudder")                             \
+    PLACE(21, C_PITCH_0, "c_pitch_0")                                     \
+    PLACE(22, C_PITCH_ALPHA, "c_pitch_alpha")                             \
+    PLACE(23, POST_STALL_PITCH_SHARE, "post_stall_pitch_share")           \
+    PLACE(24, C_PITCH_Q, "c_pitch_q")                                     \
+    PLACE(25, C_PITCH_ELEVATOR, "c_pitch_elevator")                       \
+    PLACE(26, SURFACE_STALL_SHARE, "surface_stall_share")                 \
+    PLACE(27, C_YAW_BETA, "c_yaw_beta")                                   \
+    PLACE(28, C_YAW_P, "c_yaw_p")                                         \
+    PLACE(29, C_YAW_R, "c_yaw_r")                                         \
+    PLACE(30, C_YAW_RUDDER, "c_yaw_rudder")                               \
+    PLACE(31, MAX_DEFLECTION_RAD_AILERON, "max_deflection_rad aileron")   \
+    PLACE(32, MAX_DEFLECTION_RAD_ELEVATOR, "max_deflection_rad elevator") \
+    PLACE(33, MAX_DEFLECTION_RAD_RUDDER, "max_deflection_rad rudder")     \
+    PLACE(34, SERVO_TIME_CONSTANT_S, "servo_time_constant_s")             \
+    PLACE(35, MAX_THRUST_N, "max_thrust_n")                               \
+    PLACE(36, THRUST_EXPONENT, "thrust_exponent")                         \
+    PLACE(37, THRUST_FALLOFF, "thrust_falloff")                           \
+    PLACE(38, THRUST_LINE_BELOW_CG_M, "thrust_line_below_cg_m")           \
+    PLACE(39, TIME_CONSTANT_S, "time_constant_s")                         \
+    PLACE(40, MOMENT_ARM_M, "moment_arm_m")                               \
+    PLACE(41, YAW_TORQUE_PER_THRUST_M, "yaw_torque_per_thrust_m")         \
+    PLACE(42, DISC_AREA_M2, "disc_area_m2")                               \
+    PLACE(43, SURFACE_FRACTION, "surface_fraction")                       \
+    PLACE(44, ROLL_FRACTION, "roll_fraction")                             \
+    PLACE(45, PITCH_MOMENT, "pitch_moment")                               \
+    PLACE(46, STALL_PITCH_MOMENT, "stall_pitch_moment")                   \
+    PLACE(47, SINK_LOSS, "sink_loss")                                     \
+    PLACE(48, DAMPING_FRACTION, "damping_fraction")                       \
+    PLACE(49, ROW_FACTOR, "row factor")                                   \
+    PLACE(50, MOTOR_TORQUE, "motor torque")                               \
+    PLACE(51, SURFACE_WEIGHT, "surface weight")
+
+#define BENCH_CONSTANT(number, name, text) BENCH_##name = number,
+#define BENCH_PLACE_CONSTANT(number, name, text) BENCH_PLACE_##name = number,
+#define BENCH_TEXT(number, name, text) \
+    case number:                       \
+        return text;
+enum bench_answers { BENCH_ANSWERS(BENCH_CONSTANT) };
+enum bench_places { BENCH_PLACES(BENCH_PLACE_CONSTANT) };
 
 /* The answer of a reply, one of bench_answers. */
 static inline unsigned bench_answer(uint64_t reply)
@@ -54,11 +133,41 @@ static inline unsigned bench_answer(uint64_t reply)
     return (unsigned)(reply % 16);
 }
 
-/* The place of a reply: 1 to 51 for answer 6, else 0. Places 1 to 48 are the airframe's numbers, 49 a row factor, 50 a motor's
- * torque, 51 a surface's weight. */
+/* The place of a reply: one of bench_places for answer 6, else 0. */
 static inline unsigned bench_place(uint64_t reply)
 {
     return (unsigned)(reply / 16);
+}
+
+/* The words of an answer; "unknown answer" for a number that is none. */
+static inline const char *bench_answer_text(unsigned answer)
+{
+    switch (answer) {
+        BENCH_ANSWERS(BENCH_TEXT)
+    default:
+        return "unknown answer";
+    }
+}
+
+/* The name of a place; "unknown place" for a number that is none. */
+static inline const char *bench_place_name(unsigned place)
+{
+    switch (place) {
+        BENCH_PLACES(BENCH_TEXT)
+    default:
+        return "unknown place";
+    }
+}
+#undef BENCH_CONSTANT
+#undef BENCH_PLACE_CONSTANT
+#undef BENCH_TEXT
+
+/* The length of an airframe block by its first two bytes, 0 where they give more than 16 rows. What else may be wrong with them
+ * is not looked at. */
+static inline size_t bench_airframe_length(const uint8_t header[2])
+{
+    size_t rows = header[1] % 32, wash = header[0] & 2 ? BENCH_WASH_BYTES : 0;
+    return rows > BENCH_MOST_ROWS ? 0 : BENCH_AIRFRAME_BYTES + wash + BENCH_ROW_BYTES * rows;
 }
 
 /* Where the numbers of a state's array start; they stand in the same order in its block. */
@@ -98,9 +207,9 @@ enum bench_airframe_places {
 
 /* ---- Blocks ---- */
 
-/* Tests an airframe block and writes nothing. 0 for one that every tick accepts. Refused, the first that holds: under 2 bytes (1);
- * first four bits not 1 (2); falloff kind 2 or 3 (3); a reserved bit set in the header (4); row count above 16 (5); not the length
- * that the header gives (1); a reserved bit set in a row (4); a number out of range, the lowest place (6). */
+/* Tests an airframe block and writes nothing. 0 for one that every tick accepts. Refused, the first that holds: fewer than 2
+ * bytes (1); the version is not 1 (2); the falloff kind is 2 or 3 (3); a reserved bit of the header is 1 (4); more than 16 rows
+ * (5); not as long as the header says (1); a reserved bit of a row is 1 (4); a number outside its limits, the lowest place (6). */
 uint64_t bench_read_airframe(const uint8_t *block, size_t block_len);
 
 /* Reads an airframe block into an array of 106 floats, for bench_tick_prepared. Replies as bench_read_airframe. A refused block
@@ -112,17 +221,25 @@ uint64_t bench_prepare(const uint8_t *block, size_t block_len, float *airframe, 
  * 1,000 m/s, rates within 100 rad/s, ((i*i + j*j) + k*k) + w*w in 0.9..1.1, motors 0..1, servos -1..1; NaN is outside. */
 uint64_t bench_read_state(const uint8_t *block, size_t block_len, float *state, size_t state_len);
 
-/* Writes a state's array of 29 floats into a block of 116 bytes. The numbers are not tested. An array or a block of another length
- * gets 1 and the block is left as found. */
+/* Writes a state's array of 29 floats into a block of 116 bytes. The numbers are written untested. An array or a block of another
+ * length gets 1 and the block is left as found. */
 uint64_t bench_write_state(const float *state, size_t state_len, uint8_t *block, size_t block_len);
+
+/* Reads a tick block into an array of 20 floats. The numbers are not tested. Refused: not 80 bytes (1). A refused block gives
+ * zeros. An array of another length gets 1 and is left as found. */
+uint64_t bench_read_tick(const uint8_t *block, size_t block_len, float *tick, size_t tick_len);
+
+/* Writes a tick's array of 20 floats into a block of 80 bytes. The numbers are not tested. An array or a block of another length
+ * gets 1 and the block is left as found. */
+uint64_t bench_write_tick(const float *tick, size_t tick_len, uint8_t *block, size_t block_len);
 
 /* ---- A tick ---- */
 
 /* One tick: moves the state in its array of 29 on by the tick's array of 20, with the airframe as its block, and gives alpha, beta
  * and thrust in the report's array of 3. Refused, the first that holds: an array of another length (1), which leaves state and
  * report as found; a refused block, with bench_read_airframe's reply; the state outside the envelope (7); the step not in
- * 1/1024..0.02 s (8); the next state outside the envelope (9). But for an array's length, a refused tick leaves the state as found
- * and reports zeros. Wind and commands may be any floats: a command that is NaN counts as 0, others are held to their range. */
+ * 1/1024..0.02 s (8); a departure (9). But for an array's length, a refusal leaves the state as found and reports zeros. Wind
+ * and commands may be any floats: a command that is NaN counts as 0, others are held to their range. */
 uint64_t bench_tick(const uint8_t *airframe_block, size_t airframe_block_len, float *state, size_t state_len, const float *tick,
                     size_t tick_len, float *report, size_t report_len);
 
@@ -135,16 +252,18 @@ uint64_t bench_tick_prepared(const float *airframe, size_t airframe_len, float *
 /* ---- A run over a trace ---- */
 
 /* Flies the ticks of the trace one after another from the state in its array of 29, puts the end state there and the number of
- * accepted ticks into accepted. A refused tick leaves the state, and the next one follows: the run's reply is 0 all the same, and a
- * state outside the envelope is a matter of its ticks. Refused, the first that holds: an array of another length (1); a refused
- * block, with bench_read_airframe's reply; a trace that is not whole ticks of 80 bytes (1). A refused run leaves the state as found
- * and counts 0. */
+ * accepted ticks into accepted. A refused tick does not end the run: the state stays, the next tick is flown, and the run still
+ * replies 0. A state outside the envelope is a matter of its ticks. Refused, the first that holds: an array of another length
+ * (1); a trace that is not whole ticks of 80 bytes (1); a refused block, with bench_read_airframe's reply. A refused run leaves
+ * the state as found and counts 0. */
 uint64_t bench_run(const uint8_t *airframe_block, size_t airframe_block_len, float *state, size_t state_len, const uint8_t *trace,
                    size_t trace_len, uint64_t *accepted);
 
 /* The run above and its reflection: the same flight with left and right exchanged in airframe, state and ticks. What stands in
- * reflected at first does not matter. The end states go into both arrays of 29 and the counts into both numbers. Refused as
- * bench_run, where either array is of another length (1) too: both arrays are then as found and both counts 0. */
+ * reflected at first does not matter. The end states go into both arrays of 29 and the counts into both numbers. Where the reply
+ * is 0, it is proved that they mirror: in reflected, position and velocity east, i, k, p and r have the opposite sign, every
+ * other number is that of state, zeros and NaNs alike, and the counts are equal. Refused as bench_run, where either array is of
+ * another length (1) too: both arrays are then as found and both counts 0. */
 uint64_t bench_mirrored_pair(const uint8_t *airframe_block, size_t airframe_block_len, float *state, size_t state_len,
                              float *reflected, size_t reflected_len, const uint8_t *trace, size_t trace_len, uint64_t *accepted,
                              uint64_t *accepted_reflected);
@@ -160,8 +279,80 @@ float bench_sinf(float x);
 float bench_cosf(float x);
 /* The angle whose sine is s; NaN beyond size 1. */
 float bench_asinf(float s);
-/* The angle of the point (x, y); either sign of zero is zero, and both 0 give 0. */
+/* The angle of the point (x, y); -0 counts as 0, and the angle of (0, 0) is 0. */
 float bench_atan2f(float y, float x);
+
+/* ---- The guarded forms: the calls from any float environment (gcc and clang on x86-64) ---- */
+#if defined(__x86_64__) && defined(__GNUC__)
+
+/* The control word MXCSR of the default, but for its six flags of exceptions that have come up. */
+#define BENCH_CONTROL_DEFAULT 0x1F80u
+#define BENCH_CONTROL_FLAGS 0x3Fu
+
+static inline int bench_control_is_default(unsigned control)
+{
+    return (control & ~BENCH_CONTROL_FLAGS) == BENCH_CONTROL_DEFAULT;
+}
+
+/* Whether the caller's float environment is the one that the calls need. */
+static inline int bench_float_environment_is_default(void)
+{
+    return bench_control_is_default(_mm_getcsr());
+}
+
+/* bench_guarded_X takes and gives what bench_X does. Where the environment is not the default, it sets the default, calls, and
+ * puts the caller's control word back whole: flags that the call raised are then gone. Where it is the default, nothing is set,
+ * and flags stay raised as after bench_X. A guarded form is never inlined, since a compiler may move the caller's own sums past
+ * a change of the control word, but not into a function. */
+#define BENCH_GUARDED(type, name, parameters, arguments)                          \
+    static __attribute__((noinline, unused)) type bench_guarded_##name parameters \
+    {                                                                             \
+        unsigned was = _mm_getcsr();                                              \
+        if (bench_control_is_default(was))                                        \
+            return bench_##name arguments;                                        \
+        _mm_setcsr(BENCH_CONTROL_DEFAULT);                                        \
+        type result = bench_##name arguments;                                     \
+        _mm_setcsr(was);                                                          \
+        return result;                                                            \
+    }
+
+BENCH_GUARDED(uint64_t, read_airframe, (const uint8_t *block, size_t block_len), (block, block_len))
+BENCH_GUARDED(uint64_t, prepare, (const uint8_t *block, size_t block_len, float *airframe, size_t airframe_len),
+              (block, block_len, airframe, airframe_len))
+BENCH_GUARDED(uint64_t, read_state, (const uint8_t *block, size_t block_len, float *state, size_t state_len),
+              (block, block_len, state, state_len))
+BENCH_GUARDED(uint64_t, write_state, (const float *state, size_t state_len, uint8_t *block, size_t block_len),
+              (state, state_len, block, block_len))
+BENCH_GUARDED(uint64_t, read_tick, (const uint8_t *block, size_t block_len, float *tick, size_t tick_len),
+              (block, block_len, tick, tick_len))
+BENCH_GUARDED(uint64_t, write_tick, (const float *tick, size_t tick_len, uint8_t *block, size_t block_len),
+              (tick, tick_len, block, block_len))
+BENCH_GUARDED(uint64_t, tick,
+              (const uint8_t *airframe_block, size_t airframe_block_len, float *state, size_t state_len, const float *tick,
+               size_t tick_len, float *report, size_t report_len),
+              (airframe_block, airframe_block_len, state, state_len, tick, tick_len, report, report_len))
+BENCH_GUARDED(uint64_t, tick_prepared,
+              (const float *airframe, size_t airframe_len, float *state, size_t state_len, const float *tick, size_t tick_len,
+               float *report, size_t report_len),
+              (airframe, airframe_len, state, state_len, tick, tick_len, report, report_len))
+BENCH_GUARDED(uint64_t, run,
+              (const uint8_t *airframe_block, size_t airframe_block_len, float *state, size_t state_len, const uint8_t *trace,
+               size_t trace_len, uint64_t *accepted),
+              (airframe_block, airframe_block_len, state, state_len, trace, trace_len, accepted))
+BENCH_GUARDED(uint64_t, mirrored_pair,
+              (const uint8_t *airframe_block, size_t airframe_block_len, float *state, size_t state_len, float *reflected,
+               size_t reflected_len, const uint8_t *trace, size_t trace_len, uint64_t *accepted, uint64_t *accepted_reflected),
+              (airframe_block, airframe_block_len, state, state_len, reflected, reflected_len, trace, trace_len, accepted,
+               accepted_reflected))
+BENCH_GUARDED(float, sqrtf, (float x), (x))
+BENCH_GUARDED(float, expf, (float x), (x))
+BENCH_GUARDED(float, sinf, (float x), (x))
+BENCH_GUARDED(float, cosf, (float x), (x))
+BENCH_GUARDED(float, asinf, (float s), (s))
+BENCH_GUARDED(float, atan2f, (float y, float x), (y, x))
+#undef BENCH_GUARDED
+
+#endif
 
 #ifdef __cplusplus
 }

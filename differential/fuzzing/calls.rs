@@ -6,11 +6,13 @@ use crate::guarded::{Element, Guarded};
 use crate::make::{Case, numbers};
 use crate::watch;
 
-pub const NAMES: [&str; 8] = [
+pub const NAMES: [&str; 10] = [
     "bench_read_airframe",
     "bench_prepare",
     "bench_read_state",
     "bench_write_state",
+    "bench_read_tick",
+    "bench_write_tick",
     "bench_tick",
     "bench_tick_prepared",
     "bench_run",
@@ -21,10 +23,12 @@ const READ_AIRFRAME: usize = 0;
 const PREPARE: usize = 1;
 const READ_STATE: usize = 2;
 const WRITE_STATE: usize = 3;
-const TICK: usize = 4;
-const TICK_PREPARED: usize = 5;
-const RUN: usize = 6;
-const PAIR: usize = 7;
+const READ_TICK: usize = 4;
+const WRITE_TICK: usize = 5;
+const TICK: usize = 6;
+const TICK_PREPARED: usize = 7;
+const RUN: usize = 8;
+const PAIR: usize = 9;
 
 /// What went wrong, in words.
 type Held = Result<(), String>;
@@ -32,7 +36,7 @@ type Held = Result<(), String>;
 /// How many calls were made, by name and by answer.
 #[derive(Default)]
 pub struct Counts {
-    pub calls: [u64; 8],
+    pub calls: [u64; NAMES.len()],
     pub answers: [u64; 10],
 }
 
@@ -118,10 +122,22 @@ fn read_state(counts: &mut Counts, case: &Case) -> Held {
     hold(length == (reply != 1), READ_STATE, "wrong about a length")
 }
 
-/// The bytes written are the row's numbers, but for a NaN's bits.
+/// The bytes are the row's numbers, but for a NaN's bits.
 fn written(block: &[u8], row: &[f32]) -> bool {
     let mut pairs = numbers(block).into_iter().zip(row);
     pairs.all(|(x, y)| x.to_bits() == y.to_bits() || (x.is_nan() && y.is_nan()))
+}
+
+/// A row written into a block: left as found where either has another length.
+fn after_write(block: &Guarded<u8>, row: &Guarded<f32>, fit: bool, reply: u64, call: usize) -> Held {
+    left(row, call)?;
+    if !fit {
+        hold(reply == 1, call, "took another length")?;
+        return left(block, call);
+    }
+    whole(block, call)?;
+    let good = reply == 0 && written(block.content(), row.content());
+    hold(good, call, "other bytes than the row's")
 }
 
 fn write_state(counts: &mut Counts, case: &Case) -> Held {
@@ -130,14 +146,32 @@ fn write_state(counts: &mut Counts, case: &Case) -> Held {
     let reply = made(counts, WRITE_STATE, || {
         raw::write_state(row.content(), block.lent())
     })?;
-    left(&row, WRITE_STATE)?;
-    if case.state.len() != STATE_NUMBERS || case.lent_block.len() != STATE_BYTES {
-        hold(reply == 1, WRITE_STATE, "took another length")?;
-        return left(&block, WRITE_STATE);
-    }
-    whole(&block, WRITE_STATE)?;
-    let good = reply == 0 && written(block.content(), row.content());
-    hold(good, WRITE_STATE, "other bytes than the row's")
+    let fit = case.state.len() == STATE_NUMBERS && case.lent_block.len() == STATE_BYTES;
+    after_write(&block, &row, fit, reply, WRITE_STATE)
+}
+
+fn read_tick(counts: &mut Counts, case: &Case) -> Held {
+    let block = Guarded::of(&case.tick_block);
+    let mut row = Guarded::of(&case.tick);
+    let reply = made(counts, READ_TICK, || {
+        raw::read_tick(block.content(), row.lent())
+    })?;
+    left(&block, READ_TICK)?;
+    read_into(&row, TICK_NUMBERS, reply, READ_TICK)?;
+    let length = case.tick.len() == TICK_NUMBERS && case.tick_block.len() == TICK_BYTES;
+    hold(reply == u64::from(!length), READ_TICK, "wrong about a length")?;
+    let good = !length || written(block.content(), row.content());
+    hold(good, READ_TICK, "other numbers than the block's")
+}
+
+fn write_tick(counts: &mut Counts, case: &Case) -> Held {
+    let row = Guarded::of(&case.tick);
+    let mut block = Guarded::of(&case.lent_tick_block);
+    let reply = made(counts, WRITE_TICK, || {
+        raw::write_tick(row.content(), block.lent())
+    })?;
+    let fit = case.tick.len() == TICK_NUMBERS && case.lent_tick_block.len() == TICK_BYTES;
+    after_write(&block, &row, fit, reply, WRITE_TICK)
 }
 
 /// Whether a row is a state within the envelope, by the library's own reading.
@@ -240,12 +274,12 @@ fn ticks(counts: &mut Counts, case: &Case, read: u64) -> Held {
     hold(alike, TICK_PREPARED, "another tick than bench_tick's")
 }
 
-/// The reply a run must give: for the row, the airframe, then the trace.
+/// The reply a run must give: for the row, the trace, then the airframe.
 fn run_reply(case: &Case, fit: bool, read: u64) -> u64 {
-    match (fit, read) {
-        (false, _) => 1,
-        (true, 0) => u64::from(!case.trace.len().is_multiple_of(TICK_BYTES)),
-        (true, refused) => refused,
+    if fit && case.trace.len().is_multiple_of(TICK_BYTES) {
+        read
+    } else {
+        1
     }
 }
 
@@ -305,6 +339,8 @@ pub fn all(counts: &mut Counts, case: &Case) -> Held {
     prepare(counts, case, read)?;
     read_state(counts, case)?;
     write_state(counts, case)?;
+    read_tick(counts, case)?;
+    write_tick(counts, case)?;
     ticks(counts, case, read)?;
     run(counts, case, read)?;
     pair(counts, case, read)

@@ -1,6 +1,6 @@
 //! Bytes and rows to hand to the library: random ones, and valid ones damaged.
 
-use bench::{AIRFRAME_BYTES, MOST_ROWS, REPORT_NUMBERS, ROW_BYTES, STATE_NUMBERS, TICK_NUMBERS, WASH_BYTES};
+use bench::{AIRFRAME_BYTES, MOST_ROWS, REPORT_NUMBERS, ROW_BYTES, STATE_NUMBERS, TICK_BYTES, TICK_NUMBERS, WASH_BYTES};
 
 use crate::rng::Rng;
 use crate::seeds::Flight;
@@ -36,6 +36,8 @@ pub struct Case {
     pub reflected: Vec<f32>,
     pub tick: Vec<f32>,
     pub report: Vec<f32>,
+    pub tick_block: Vec<u8>,
+    pub lent_tick_block: Vec<u8>,
 }
 
 fn telling(rng: &mut Rng) -> f32 {
@@ -142,9 +144,17 @@ fn tick_row(trace: &[u8]) -> Vec<f32> {
     row
 }
 
+/// The bytes of a trace's first tick, zeros where it has none.
+fn tick_block(trace: &[u8]) -> Vec<u8> {
+    let mut block = trace.to_vec();
+    block.resize(TICK_BYTES, 0);
+    block
+}
+
 /// A case of blocks of `length` bytes, from a valid flight; the airframe's row is its prepared one.
 pub fn case(rng: &mut Rng, flight: &Flight, prepared: &[f32], length: usize) -> Case {
     let any = rng.below(2001);
+    let first = tick_block(&flight.trace);
     Case {
         block: block(rng, &flight.airframe, length),
         state_block: block(rng, &flight.state, length),
@@ -155,5 +165,7 @@ pub fn case(rng: &mut Rng, flight: &Flight, prepared: &[f32], length: usize) -> 
         reflected: random_row(rng, STATE_NUMBERS),
         tick: row(rng, tick_row(&flight.trace)),
         report: random_row(rng, REPORT_NUMBERS),
+        tick_block: block(rng, &first, length),
+        lent_tick_block: block(rng, &first, any),
     }
 }

@@ -1,5 +1,5 @@
-//! Document 01's blocks: reading an airframe, a state and a tick, writing a state. Written from
-//! 01 alone; only a row's torques and weights come from the originals.
+//! Document 01's blocks: reading an airframe, a state and a tick, writing a state and a tick. Written
+//! from 01 alone; only a row's torques and weights come from the originals.
 
 use stable_flight::Vec3;
 use stable_flight::mixers::{MixRow, Slot, TableMixer};
@@ -42,7 +42,7 @@ pub struct Airframe {
 }
 
 impl Airframe {
-    /// What a refused read returns: zeros, falloff Linear 0, no wash, no motor used.
+    /// What a refused read returns: zeros, Linear, with neither wash nor used motors.
     pub fn zero() -> Self {
         Airframe {
             pitch_speed: false,
@@ -156,7 +156,7 @@ fn numbers<const N: usize>(bytes: &[u8], at: usize) -> [f32; N] {
     core::array::from_fn(|place| number(bytes, at + 4 * place))
 }
 
-/// A row: kind 1 bit (0 motor, 1 servo), slot 3, reserved 4, roll, pitch, yaw.
+/// A row: the kind in bit 7 of its first byte, the slot in bits 6..4; then three factors.
 fn read_row(bytes: &[u8]) -> Result<MixRow, Refusal> {
     let head = bytes[0];
     if head & 0b1111 != 0 {
@@ -233,7 +233,7 @@ pub(crate) fn layout(airframe: &Airframe) -> MotorLayout {
     }
 }
 
-/// A state: position and velocity NED, attitude w i j k, body rates, running values.
+/// A state, its numbers in their order.
 #[derive(Debug, Clone, Copy, PartialEq)]
 pub struct State {
     pub position: [f32; 3],
@@ -299,16 +299,21 @@ pub fn read_state(bytes: &[u8]) -> Result<State, Refusal> {
     Ok(state)
 }
 
-/// Writes `state` into exactly 116 bytes lent; otherwise leaves them and answers 1. Its numbers
-/// are not tested.
-pub fn write_state(state: &State, bytes: &mut [u8]) -> Result<(), Refusal> {
-    if bytes.len() != STATE_BYTES {
+/// Writes the numbers, untested, where just as many bytes are lent as they need; else answers 1
+/// and leaves the bytes.
+fn write(numbers: &[f32], bytes: &mut [u8]) -> Result<(), Refusal> {
+    if bytes.len() != 4 * numbers.len() {
         return Err(Refusal::of(limits::LENGTH));
     }
-    for (place, number) in state.numbers().into_iter().enumerate() {
-        bytes[4 * place..4 * place + 4].copy_from_slice(&number.to_be_bytes());
+    for (place, number) in bytes.chunks_exact_mut(4).zip(numbers) {
+        place.copy_from_slice(&number.to_be_bytes());
     }
     Ok(())
+}
+
+/// Writes `state` into 116 bytes lent.
+pub fn write_state(state: &State, bytes: &mut [u8]) -> Result<(), Refusal> {
+    write(&state.numbers(), bytes)
 }
 
 /// A tick: step, wind NED, motor and servo commands.
@@ -318,6 +323,18 @@ pub struct Tick {
     pub wind: [f32; 3],
     pub motors: [f32; SLOTS],
     pub servos: [f32; SLOTS],
+}
+
+impl Tick {
+    /// All 20 numbers in the block's order.
+    pub fn numbers(&self) -> Vec<f32> {
+        [&[self.step], &self.wind[..], &self.motors, &self.servos].concat()
+    }
+}
+
+/// Writes `tick` into 80 bytes lent.
+pub fn write_tick(tick: &Tick, bytes: &mut [u8]) -> Result<(), Refusal> {
+    write(&tick.numbers(), bytes)
 }
 
 pub fn read_tick(bytes: &[u8]) -> Result<Tick, Refusal> {

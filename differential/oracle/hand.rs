@@ -229,7 +229,7 @@ fn replies() -> Vec<Case> {
     ]
 }
 
-/// At the origin, level, nose north, motors stopped and servos centered.
+/// All numbers 0 but w, which is 1.
 pub fn at_rest() -> State {
     State {
         attitude: [1.0, 0.0, 0.0, 0.0],

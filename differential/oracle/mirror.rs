@@ -14,7 +14,7 @@ fn reflected_vectors(vectors: [Vec3; 8]) -> [Vec3; 8] {
     vectors.map(|v| Vec3::new(-v.x, v.y, -v.z))
 }
 
-/// Roll and yaw of motor torques and surface weights.
+/// The torques and the weights, in roll and yaw.
 pub fn reflected_airframe(airframe: &Airframe) -> Airframe {
     Airframe {
         torques: reflected_vectors(airframe.torques),

@@ -1,4 +1,4 @@
-//! Document 01's tick and the run over a trace: its tests around the original `begin`, `loads`
+//! The tick and the run of document 01: its tests around the original `begin`, `loads`
 //! and `step`.
 
 use stable_flight::mixers::TableMixer;
@@ -217,7 +217,7 @@ pub(crate) fn wash(numbers: [f32; 7]) -> PropWash {
     }
 }
 
-/// A run over a trace: its answer (0 or 1), the end state and the number of accepted ticks.
+/// A run over a trace: its answer, 0 or 1, its last state and its count.
 pub fn run(airframe: &Airframe, start: &State, trace: &[u8]) -> (u8, State, u64) {
     if !trace.len().is_multiple_of(TICK_BYTES) {
         return (limits::LENGTH, *start, 0);

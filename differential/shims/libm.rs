@@ -115,7 +115,7 @@ fn eighth_turn(a: f32) -> f32 {
     if far { angle + FRAC_PI_4 } else { angle }
 }
 
-/// The angle of the point (`x`, `y`), in rad. Either sign of zero is zero.
+/// The angle of the point (`x`, `y`), in rad; -0 counts as 0.
 pub fn atan2f(y: f32, x: f32) -> f32 {
     if y.is_nan() || x.is_nan() {
         return f32::NAN;

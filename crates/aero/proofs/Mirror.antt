@@ -1,4 +1,4 @@
--- The wrench in a mirror of left and right is the mirrored wrench. The flow in the plane of symmetry is the same as data, alpha's zeros too: so are lift, drag, the pitch moment
+-- The wrench in a mirror of left and right is the mirrored wrench. What goes by u and w is the same as data, alpha's zeros too: so are lift, drag, static pitch
 -- and every pressure, and only sideslip, rates and deflections turn. Model, wash and density are the same data. Assumes nothing.
 use lib.Ieee.{Float, binary32, lt}
 use mathlib.Core.Bool.{false, true}

@@ -1,7 +1,7 @@
--- The dimensionless coefficients (01, module 6), in the stability-derivative form of Beard and McLain, Small Unmanned Aircraft, ch. 4
--- (below: B&M), in the order of operations that the Rust spells. Where the Rust departs from the book, a line says so. Definitions only.
--- The book was not at hand: its formulas stand here as they are commonly quoted, and the numbers of equations and sections are from
--- memory, not yet held against a copy (docs/DIFFERENCES.md).
+-- The coefficients (01, module 6) by chapter 4 of Small Unmanned Aircraft, by Beard and McLain (below: B&M), in the order of
+-- operations that the Rust spells. Where the Rust departs from the book, a line says so. Definitions only. The book was not at
+-- hand: its formulas stand here as they are commonly quoted, and the numbers of its equations are not yet held against a copy
+-- (docs/DIFFERENCES.md).
 use lib.Ieee.{Float, le, lt, nan, ne, neg}
 use mathlib.Core.Bool.{cond}
 use Rattle.fixed_wing.specs.Falloff.{aspectRatio}
@@ -57,10 +57,10 @@ flatPlatePressureDrag s = two ⊗ s ⊗ s
 unfoldable pub flatPlateDrag : AeroCoefficients → Float → Float
 flatPlateDrag c s = c .«c_drag_0» ⊕ flatPlatePressureDrag s
 
--- ---- pitch, B&M ch. 4.2: Cm0 + Cmα α
--- departs: on sin α, not α; and blended past the stall into a flat plate's, which the book has not: its normal force, lift · cos α +
--- drag · sin α, at a centre of pressure from the quarter chord at α 0 to the three-quarter chord at ±180°, about a centre of gravity
--- that is ahead of the quarter chord by -Cmα / CLα. Without the knee
+-- ---- pitch, B&M: Cm0 + Cmα α
+-- departs: on sin α, not α; and beyond the stall with a share of a flat plate's moment, which the book has not: the plate's
+-- normal force, lift · cos α + drag · sin α, acts 0.25 chords behind the leading edge at α 0, 0.75 at ±180°; the centre of
+-- gravity is -Cmα / CLα chords before 0.25. Without the knee
 abbrev pub quarterChord : Float
 quarterChord = rounded 25 100
 

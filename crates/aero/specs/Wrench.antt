@@ -26,9 +26,9 @@ washRateScale m w density = half ⊗ density ⊗ w .«damping_mps» ⊗ m .«win
 unfoldable pub withWash : Float → Float → Float → Float
 withWash free pa area = atLeastZero (free ⊕ pa ⊗ area)
 
--- ---- rate terms, Beard and McLain, Small Unmanned Aircraft, ch. 4.2 and 4.3 (as commonly quoted, sections from memory:
--- docs/DIFFERENCES.md): ½ρV²S·b·(Clp (b/2V) p + Clr (b/2V) r), ½ρV²S·c·Cmq (c/2V) q
--- departs: written per unit of airspeed, scale = ½ρVS, and not divided by it, so that they vanish smoothly with the airspeed
+-- ---- rate terms, by chapter 4 of Beard and McLain's book (as commonly quoted: docs/DIFFERENCES.md):
+-- ½ρV²S·b·(Clp (b/2V) p + Clr (b/2V) r), ½ρV²S·c·Cmq (c/2V) q
+-- departs: nothing is divided by V, the scale being ½ρVS; and the wash adds a scale of its own, in still air too
 unfoldable pub rateMoments : FixedWingModel → Float → Vec3 → Vec3
 rateMoments m scale rates =
     vec
@@ -63,7 +63,7 @@ washedSurfaces m w free d =
     (withWash free (w .«pressure_pa») (m .«wing_area_m2»))
     d
 
--- ---- the wash on the wing: always, and past the stall flying nose first by the free stream's share of the pressure
+-- ---- the wash's pitch moment: in any flow, and more beyond the stall, by how much of the pressure is free stream
 unfoldable pub washPitch : FixedWingModel → Wash → Vec3
 washPitch m w = vec nought (w .«pitch_moment_pa» ⊗ m .«wing_area_m2» ⊗ m .«chord_m») nought
 
@@ -79,8 +79,7 @@ stallWash m f area w =
     (stallShare f (area ⊘ m .«wing_area_m2») (w .«pressure_pa») ⊗ w .«stall_pitch_moment_pa» ⊗ m .«wing_area_m2» ⊗ m .«chord_m»)
     nought
 
--- ---- the flow in the plane of symmetry, which lift, drag and the pitch moment take: α = atan2(w, u), and the pressure of the speed
--- √(u² + w²)
+-- ---- what lift, drag and pitch go by: α = atan2(w, u), and the pressure of √(u² + w²), the speed in the plane of symmetry
 -- departs: the book takes the whole airspeed's pressure for them
 unfoldable pub symmetricSpeed : Vec3 → Float
 symmetricSpeed air = sqrtOf binary32 (air .x ⊗ air .x ⊕ air .z ⊗ air .z)
@@ -101,7 +100,7 @@ flowOf m air density = flowAt m (atan2Of (air .z) (air .x)) (pressureArea m (sym
 unfoldable pub sideslip : Float → Float → Float
 sideslip v speed = asinOf (clamp (neg one) one (v ⊘ speed))
 
--- ---- forces: lift is normal to the air in the plane of symmetry, toward body -z; drag along it
+-- ---- forces: lift at a right angle to (u, w), drag against it
 unfoldable pub flowLift : FixedWingModel → Flow → Float
 flowLift m f = f .«symmetric_area_n» ⊗ liftCoefficient (m .aero) (f .«alpha_rad») (f .blend) (f .«sin_alpha») (f .«cos_alpha»)
 
@@ -164,7 +163,7 @@ stillOf m rates d w density =
       «beta_rad» = s .«beta_rad»;
     }
 
--- "air speed not above 0, NaN included, takes the still branch, alpha and beta 0"
+-- where V is not above 0, or a NaN, the air is still: alpha and beta are 0
 unfoldable pub wrenchOf : FixedWingModel → Vec3 → Vec3 → Vec3 → Wash → Float → Aero
 wrenchOf m air rates d w density =
     cond (lt nought (normOf air))

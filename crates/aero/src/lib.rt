@@ -1,4 +1,4 @@
-// Fixed-wing aerodynamic forces and moments: see `wrench`.
+// 01, module 6: force, moment and flow angles of the aeroplane in the air (`wrench`).
 ghost use mathlib.Core.Path.{_≡_};
 ghost use Rattle.aero.specs.Coefficients as Coefficients;
 ghost use Rattle.aero.specs.Wrench as Wrench;
@@ -7,27 +7,27 @@ use fixed_wing::FixedWingModel;
 use tailsitter_model::Wash;
 use vector::Vec3;
 
-// Largest exponent that the stall blend evaluates.
+// The stall blend holds its two exponents within ± this.
 const MAX_BLEND_EXPONENT: f32 = 60.0;
 
 const PI: f32 = 3.14159265358979;
 
-// Where attached flow's lift acts on a thin wing, in chords from the leading edge.
+// In chords behind the leading edge.
 const QUARTER_CHORD: f32 = 0.25;
 
-// The aerodynamic force and moment on an airplane, and the flow angles they came from.
+// What the air does to the aeroplane, with alpha and beta. Vectors are on body axes.
 pub struct Aero {
-    // Force on the FRD body axes.
+    // In N.
     pub force_n: Vec3,
-    // Moment on the FRD body axes.
+    // In N·m, about the centre of gravity.
     pub torque_nm: Vec3,
-    // Angle of attack.
+    // Alpha.
     pub alpha_rad: f32,
-    // Sideslip: positive with the air coming from the right.
+    // Beta: above 0 where the air comes from the right wing's side.
     pub beta_rad: f32,
 }
 
-// The flow in the plane of symmetry: its angle, what follows from the angle, and its dynamic pressure times the wing area.
+// What lift, drag and pitch go by, from u and w alone: alpha, what follows from alpha, and Qs.
 struct Flow {
     alpha_rad: f32,
     blend: f32,
@@ -36,9 +36,8 @@ struct Flow {
     symmetric_area_n: f32,
 }
 
-// The aerodynamics of `model` moving through the air at `air_mps` (its velocity relative to the air, FRD body axes) while
-// turning at `rates_radps`, with its aileron, elevator and rudder axes deflected by `deflection_rad`, in `wash`. Air whose speed
-// is not above 0, an unknown speed included, is still air.
+// Module 6 as a whole. `air_mps` is (u, v, w), `rates_radps` (p, q, r), `deflection_rad` aileron, elevator, rudder. Air whose
+// speed is not above 0, or NaN, counts as still.
 pub fn wrench(
     model: FixedWingModel,
     air_mps: Vec3,
@@ -67,7 +66,7 @@ pub fn wrench(
     still(model, rates_radps, deflection_rad, wash, density_kgpm3)
 }
 
-// In still air the surfaces act in the wash alone, which also pitches the wing and damps its turn rates.
+// Without airspeed only the wash acts: on the surfaces, as a pitch moment, and in the rate terms.
 fn still(
     model: FixedWingModel,
     rates_radps: Vec3,
@@ -91,7 +90,7 @@ fn still(
     }
 }
 
-// In moving air: lift and drag by the flow in the plane of symmetry, the sideslip terms by the whole airspeed's pressure.
+// With airspeed: lift, drag and pitch go by Qs, all that depends on beta by Q.
 fn moving(
     model: FixedWingModel,
     speed_mps: f32,
@@ -137,7 +136,7 @@ fn with_surfaces(
     }
 }
 
-// The flow in the plane of symmetry (body x and z), which lift and drag act in: air along the span lifts and drags nothing.
+// Of (u, v, w), v plays no part here.
 fn flow_of(model: FixedWingModel, air_mps: Vec3, density_kgpm3: f32) -> Flow
     ensures { λ r. ⌜ r ≡ Wrench.flowOf model «air_mps» «density_kgpm3» ⌝ }
 {
@@ -153,7 +152,7 @@ fn flow_of(model: FixedWingModel, air_mps: Vec3, density_kgpm3: f32) -> Flow
     }
 }
 
-// The speed of the air in the plane of symmetry.
+// sqrt(u·u + w·w).
 fn symmetric_speed_mps(air_mps: Vec3) -> f32
     ensures { λ r. ⌜ r ≡ Wrench.symmetricSpeed «air_mps» ⌝ }
 {
@@ -166,7 +165,7 @@ fn sideslip(air_y_mps: f32, speed_mps: f32) -> f32
     libm::asinf(float::clamp(air_y_mps / speed_mps, -1.0, 1.0))
 }
 
-// Lift is normal to the air in the plane of symmetry, toward body -z; drag along it.
+// Lift at a right angle to (u, w), drag against it, and the side force by beta.
 fn flow_force_n(model: FixedWingModel, flow: Flow, side_n: f32) -> Vec3
     ensures { λ r. ⌜ r ≡ Wrench.flowForce model flow «side_n» ⌝ }
 {
@@ -183,7 +182,7 @@ fn flow_force_n(model: FixedWingModel, flow: Flow, side_n: f32) -> Vec3
     )
 }
 
-// Drag, blended past the stall into a flat plate's.
+// Between the attached wing's drag and the plate's, by the stall blend.
 fn flow_drag_n(model: FixedWingModel, flow: Flow) -> f32
     ensures { λ r. ⌜ r ≡ Wrench.flowDrag model flow ⌝ }
 {
@@ -194,7 +193,7 @@ fn flow_drag_n(model: FixedWingModel, flow: Flow) -> f32
         + flow.symmetric_area_n * blend * flat_plate_drag(c, flow.sin_alpha)
 }
 
-// The static moments of the undeflected airplane.
+// Moments by alpha and beta alone: no rates, deflections or wash.
 fn static_nm(model: FixedWingModel, flow: Flow, area_n: f32, beta_rad: f32) -> Vec3
     ensures { λ r. ⌜ r ≡ Wrench.staticMoments model flow «area_n» «beta_rad» ⌝ }
 {
@@ -213,7 +212,7 @@ fn static_nm(model: FixedWingModel, flow: Flow, area_n: f32, beta_rad: f32) -> V
     )
 }
 
-// Past the stall, flying nose first, the wash pitches the wing harder as the free stream takes over the flow on the surfaces.
+// What the wash adds to the pitch moment beyond the stall: none of it tail first, more with a larger share of free stream.
 fn stall_wash_nm(model: FixedWingModel, flow: Flow, area_n: f32, wash: Wash) -> Vec3
     ensures { λ r. ⌜ r ≡ Wrench.stallWash model flow «area_n» wash ⌝ }
 {
@@ -229,7 +228,7 @@ fn stall_wash_nm(model: FixedWingModel, flow: Flow, area_n: f32, wash: Wash) -> 
     )
 }
 
-// Barely moving with no wash, both round to 0: nothing to share.
+// 0 where the sum is not above 0, as without wash at a speed whose square underflows.
 fn free_share(free_pa: f32, total_pa: f32) -> f32
     ensures { λ r. ⌜ r ≡ Wrench.freeShare «free_pa» «total_pa» ⌝ }
 {
@@ -239,7 +238,7 @@ fn free_share(free_pa: f32, total_pa: f32) -> f32
     0.0
 }
 
-// The pitch moment that the wash puts on the wing undeflected.
+// The wash torque of module 6.
 fn wash_pitch_nm(model: FixedWingModel, wash: Wash) -> Vec3
     ensures { λ r. ⌜ r ≡ Wrench.washPitch model wash ⌝ }
 {
@@ -250,14 +249,14 @@ fn wash_pitch_nm(model: FixedWingModel, wash: Wash) -> Vec3
     )
 }
 
-// The wash's rate scale, ½ρ·V·S.
+// The wash scale of module 6.
 fn wash_rate_scale(model: FixedWingModel, wash: Wash, density_kgpm3: f32) -> f32
     ensures { λ r. ⌜ r ≡ Wrench.washRateScale model wash «density_kgpm3» ⌝ }
 {
     0.5 * density_kgpm3 * wash.damping_mps * model.wing_area_m2
 }
 
-// The surfaces under the free stream's `surface_free_n` and the wash, each action by its own pressure.
+// Surfaces in free stream and wash: roll has a pressure of its own.
 fn washed_surfaces(
     model: FixedWingModel,
     wash: Wash,
@@ -277,8 +276,7 @@ fn with_wash(surface_free_n: f32, wash_pa: f32, wing_area_m2: f32) -> f32
     float::at_least_zero(surface_free_n + wash_pa * wing_area_m2)
 }
 
-// The side force and moments of the surfaces deflected by `deflection_rad` (aileron, elevator, rudder): the aileron's under
-// `roll_area_n`, the others' under `pressure_area_n` (their dynamic pressure times wing area).
+// Surface force and torque: `roll_area_n` is R, for the aileron, `pressure_area_n` is E, for elevator and rudder.
 fn surface_wrench(
     model: FixedWingModel,
     roll_area_n: f32,
@@ -310,7 +308,7 @@ fn surface_wrench(
     }
 }
 
-// The rate damping and cross terms under `rate_scale` (dynamic pressure times wing area per unit of airspeed).
+// The torque by p, q and r, rates(z), z being `rate_scale`.
 fn rate_moments(model: FixedWingModel, rate_scale: f32, rates_radps: Vec3) -> Vec3
     ensures { λ r. ⌜ r ≡ Wrench.rateMoments model «rate_scale» «rates_radps» ⌝ }
 {
@@ -327,14 +325,14 @@ fn rate_moments(model: FixedWingModel, rate_scale: f32, rates_radps: Vec3) -> Ve
     )
 }
 
-// Dynamic pressure at `speed_mps` times the wing area.
+// Q(V).
 pub fn pressure_area_n(model: FixedWingModel, speed_mps: f32, density_kgpm3: f32) -> f32
     ensures { λ r. ⌜ r ≡ Wrench.pressureArea model «speed_mps» «density_kgpm3» ⌝ }
 {
     0.5 * density_kgpm3 * speed_mps * speed_mps * model.wing_area_m2
 }
 
-// How far past the stall `alpha_rad` is: 0 inside ±alpha_stall_rad and 1 outside.
+// The stall blend: near 0 between the two stall angles, near 1 beyond them.
 pub fn stall_blend(c: AeroCoefficients, alpha_rad: f32) -> f32
     ensures { λ r. ⌜ r ≡ Coefficients.stallBlend c «alpha_rad» ⌝ }
 {
@@ -349,14 +347,14 @@ fn exponent(x: f32) -> f32
     libm::expf(float::clamp(x, -MAX_BLEND_EXPONENT, MAX_BLEND_EXPONENT))
 }
 
-// The linear lift coefficient.
+// The attached wing's lift, a line over alpha.
 pub fn linear_lift(c: AeroCoefficients, alpha_rad: f32) -> f32
     ensures { λ r. ⌜ r ≡ Coefficients.linearLift c «alpha_rad» ⌝ }
 {
     c.c_lift_0 + c.c_lift_alpha * alpha_rad
 }
 
-// Lift coefficient: linear below the stall, a flat plate's past it.
+// From the line to the plate's lift, by the blend.
 pub fn lift_coefficient(
     c: AeroCoefficients,
     alpha_rad: f32,
@@ -370,7 +368,7 @@ pub fn lift_coefficient(
         + blend * flat_plate_lift(alpha_rad, sin_alpha, cos_alpha)
 }
 
-// Drag coefficient of the attached flow at the linear lift coefficient: parasitic plus induced.
+// The attached wing's drag: parasitic, and induced by its lift.
 pub fn drag_coefficient(model: FixedWingModel, linear_lift: f32) -> f32
     ensures { λ r. ⌜ r ≡ Coefficients.dragCoefficient model «linear_lift» ⌝ }
 {
@@ -392,28 +390,28 @@ fn sign(x: f32) -> f32
     1.0
 }
 
-// A flat plate's lift coefficient: its normal force's share across the air.
+// The lift of a flat plate.
 fn flat_plate_lift(alpha_rad: f32, sin_alpha: f32, cos_alpha: f32) -> f32
     ensures { λ r. ⌜ r ≡ Coefficients.flatPlateLift «alpha_rad» «sin_alpha» «cos_alpha» ⌝ }
 {
     2.0 * sign(alpha_rad) * sin_alpha * sin_alpha * cos_alpha
 }
 
-// A flat plate's pressure drag coefficient: its normal force's share along the air.
+// The plate's drag without the parasitic part.
 fn flat_plate_pressure_drag(sin_alpha: f32) -> f32
     ensures { λ r. ⌜ r ≡ Coefficients.flatPlatePressureDrag «sin_alpha» ⌝ }
 {
     2.0 * sin_alpha * sin_alpha
 }
 
-// Drag coefficient past the stall: parasitic plus a flat plate's.
+// The stalled wing's drag.
 fn flat_plate_drag(c: AeroCoefficients, sin_alpha: f32) -> f32
     ensures { λ r. ⌜ r ≡ Coefficients.flatPlateDrag c «sin_alpha» ⌝ }
 {
     c.c_drag_0 + flat_plate_pressure_drag(sin_alpha)
 }
 
-// How far the center of gravity sits ahead of the quarter chord, in chords.
+// From the quarter chord forward to the centre of gravity, in chords; 0 where lift does not rise with alpha.
 fn static_margin_chords(c: AeroCoefficients) -> f32
     ensures { λ r. ⌜ r ≡ Coefficients.staticMargin c ⌝ }
 {
@@ -423,8 +421,8 @@ fn static_margin_chords(c: AeroCoefficients) -> f32
     0.0
 }
 
-// A flat plate's pitch moment coefficient about the center of gravity: its normal force at a center of pressure from the quarter
-// chord at alpha 0 back to the three-quarter chord at ±180°. A normal force behind the center of gravity pushes the nose down.
+// The plate's pitch moment: its normal force acts 0.25 chords behind the leading edge at alpha 0, 0.75 at ±π; aft of the centre
+// of gravity it turns the nose down.
 fn flat_plate_pitch(c: AeroCoefficients, alpha_rad: f32, sin_alpha: f32, cos_alpha: f32) -> f32
     ensures { λ r. ⌜ r ≡ Coefficients.flatPlatePitch c «alpha_rad» «sin_alpha» «cos_alpha» ⌝ }
 {
@@ -435,7 +433,7 @@ fn flat_plate_pitch(c: AeroCoefficients, alpha_rad: f32, sin_alpha: f32, cos_alp
     -normal * (center_of_pressure - center_of_gravity)
 }
 
-// The static pitch moment coefficient: static stability on sin alpha, blended past the stall into a flat plate's.
+// Cm: the attached wing's line over sin alpha, and past the stall a share of the plate's moment.
 fn pitch_coefficient(
     c: AeroCoefficients,
     alpha_rad: f32,

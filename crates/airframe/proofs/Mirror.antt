@@ -1,4 +1,4 @@
--- An airframe and its reflection are refused at the same place; and the reflection by flipping sign bits is one. Assumes nothing.
+-- An airframe and its reflection have one refused place; and the reflection by flipping sign bits is one. Assumes nothing.
 use Prim.Native.Nat.{ℕ}
 use denote.Index.{place}
 use lib.Dec.{eqb}

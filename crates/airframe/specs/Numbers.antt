@@ -64,7 +64,7 @@ baseNumbers m g more =
     falloffNumber (m .«thrust_falloff») ∷ m .«thrust_line_below_cg_m» ∷ g .«time_constant_s» ∷ g .layout .«moment_arm_m» ∷
     g .layout .«yaw_torque_per_thrust_m» ∷ more)))
 
--- 42 disc, 43 surface and 44 roll fraction, 45 pitch and 46 stall pitch moment, 47 sink loss, 48 damping
+-- the wash's, 42 to 48
 unfoldable pub washNumbers : PropWash → List Float → List Float
 washNumbers w more =
     w .«disc_area_m2» ∷ w .«surface_fraction» ∷ w .«roll_fraction» ∷ w .«pitch_moment» ∷ w .«stall_pitch_moment» ∷ w .«sink_loss» ∷
@@ -73,7 +73,7 @@ washNumbers w more =
 unfoldable pub numbersOf : Airframe → List Float
 numbersOf a = baseNumbers (a .model) (a .motors) (washNumbers (a .wash) [])
 
--- what a refused read returns: zeros, falloff Linear 0, no wash, no motor used
+-- the zero airframe, which a refused read gives: all numbers 0, Linear, the wash absent, no slot marked
 unfoldable pub zeroCoefficients : AeroCoefficients
 zeroCoefficients = record {
   «c_lift_0» = nought;

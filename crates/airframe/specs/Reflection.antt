@@ -1,4 +1,4 @@
--- The reflection of an airframe (01, "Reflection negates"): roll and yaw of motor torques and surface weights; all else stays.
+-- The reflection of an airframe (01, "Reflection negates"): torques and weights turn in roll and yaw; all else stays.
 -- And what it is for one airframe to be the other's reflection as numbers. Definitions only.
 use mathlib.Core.Path.{_≡_}
 use Rattle.mixers.specs.Reflection.{AxesRel, reflectAxes}

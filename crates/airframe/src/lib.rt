@@ -17,7 +17,7 @@ use vector::Vec3;
 
 pub struct Airframe {
     pub model: FixedWingModel,
-    // Whether there is a wash; an absent wash's numbers are not used.
+    // Whether there is a wash; where not, `wash` is not looked at.
     pub wash_present: bool,
     pub wash: PropWash,
     // The motors along body x.
@@ -349,7 +349,7 @@ pub fn vectors_outside(vectors: [Vec3; 8], limit: f32, place: u32) -> u32
 }
 
 impl Airframe {
-    // The airframe that a refused read returns: zeros, falloff Linear 0, no wash, no motor used.
+    // The zero airframe, which a refused read gives.
     pub fn zero() -> Self
         ensures { λ r. ⌜ r ≡ Numbers.zeroAirframe ⌝ }
     {
@@ -427,7 +427,7 @@ fn zero_model() -> FixedWingModel
 }
 
 impl Airframe {
-    // The reflection of left and right: roll and yaw of motor torques and surface weights negated.
+    // Left and right exchanged: the motors' torques and the weights are negated in roll and yaw.
     pub fn reflected(mut self) -> Self
         ensures { λ r. ⌜ r ≡ Reflection.reflectAirframe self ⌝ }
     {

@@ -1,4 +1,4 @@
--- What reading an airframe block can give (01, "What the bench replies"): a refusal, with the airframe of zeros, or an accepted airframe. And an absent wash is all zeros.
+-- What reading an airframe block can give (01, "What the bench replies"): a refusal, with the airframe of zeros, or an accepted airframe. And where no wash is read, its numbers are 0.
 -- Assumes nothing.
 use Prim.Native.Nat.{ℕ}
 use borrow.Author.Tests.{eqb-true}
@@ -14,6 +14,7 @@ use Rattle.airframe.specs.Numbers.{zeroAirframe, zeroWash}
 use Rattle.airframe.specs.declared.Airframe.{Airframe}
 use Rattle.answers.specs.declared.Answer.{Answer}
 use Rattle.answers.specs.declared.Answer.the-variants.{Done, NumberOutOfRange, ReservedBit, TooManyRows, WrongFalloff, WrongLength, WrongVersion}
+use Rattle.float.proofs.Tests.{either}
 use Rattle.float.specs.Bytes.{byteAt}
 use Rattle.mixers.specs.declared.Rows.{Rows}
 use Rattle.airframe_block.specs.Block.{acceptedAirframe, airframeBy, badRow, bytesOf, headerOf, numbersFrom, placedAirframe, putNumbers, putSegment, putSegments, readAirframeOf, readBody, readBy, readRows, refusedAirframe, reservedRow, rowsAt, rowsFrom, segmentsOf, testedAirframe, washFrom}
@@ -24,10 +25,6 @@ use Rattle.airframe_block.specs.declared.Header.{Header}
 pub data Outcome : AirframeRead → Type 0 where
   refusal : (a : Answer) → (a ≡ Done → ⊥) → Outcome (refusedAirframe a)
   acceptance : (a : Airframe) → refusedPlace a ≡ 0 → Outcome (acceptedAirframe a)
-
-either : (t : Bool) (x y : AirframeRead) → Outcome x → Outcome y → Outcome (cond t x y)
-either true x y a b = a
-either false x y a b = b
 
 no-reply : (p : ℕ) → NumberOutOfRange p ≡ Done → ⊥
 no-reply p q = let z : _≡_ {A = ℕ} 0 1 = cc in omega arith
@@ -66,20 +63,20 @@ rows-outcome s h rows = placed-outcome (airframeBy (numbersFrom s h) h rows) row
 
 body-outcome : (s : List ℕ) (h : Header) → Outcome (readBody s h)
 unfolding readBody
-body-outcome s h = either (eqb (reservedRow s (rowsAt h) (h .rows)) 0) _ _ (rows-outcome s h (rowsFrom s (rowsAt h) (h .rows))) (refusal ReservedBit not-reserved)
+body-outcome s h = either Outcome (eqb (reservedRow s (rowsAt h) (h .rows)) 0) (rows-outcome s h (rowsFrom s (rowsAt h) (h .rows))) (refusal ReservedBit not-reserved)
 
 by-outcome : (s : List ℕ) (h : Header) → Outcome (readBy s h)
 unfolding readBy
 by-outcome s h =
-    either (not (eqb (h .version) 1)) _ _ (refusal WrongVersion not-version)
-    (either (ltb 1 (h .kind)) _ _ (refusal WrongFalloff not-falloff)
-    (either (not (eqb (h .reserved) 0)) _ _ (refusal ReservedBit not-reserved)
-    (either (ltb 16 (h .rows)) _ _ (refusal TooManyRows not-rows)
-    (either (not (eqb (length s) (bytesOf h))) _ _ (refusal WrongLength not-length) (body-outcome s h)))))
+    either Outcome (not (eqb (h .version) 1)) (refusal WrongVersion not-version)
+    (either Outcome (ltb 1 (h .kind)) (refusal WrongFalloff not-falloff)
+    (either Outcome (not (eqb (h .reserved) 0)) (refusal ReservedBit not-reserved)
+    (either Outcome (ltb 16 (h .rows)) (refusal TooManyRows not-rows)
+    (either Outcome (not (eqb (length s) (bytesOf h))) (refusal WrongLength not-length) (body-outcome s h)))))
 
 pub read-outcome : (s : List ℕ) → Outcome (readAirframeOf s)
 unfolding readAirframeOf
-read-outcome s = either (ltb (length s) 2) _ _ (refusal WrongLength not-length) (by-outcome s (headerOf (byteAt s 0) (byteAt s 1)))
+read-outcome s = either Outcome (ltb (length s) 2) (refusal WrongLength not-length) (by-outcome s (headerOf (byteAt s 0) (byteAt s 1)))
 
 accepted-of : (r : AirframeRead) → Outcome r → r .answer ≡ Done → refusedPlace (r .airframe) ≡ 0
 unfolding refusedAirframe acceptedAirframe
@@ -99,7 +96,7 @@ refused-of r (acceptance a p) e = absurd (e refl)
 pub refused-is-zero : (s : List ℕ) → (readAirframeOf s .answer ≡ Done → ⊥) → readAirframeOf s .airframe ≡ zeroAirframe
 refused-is-zero s e = refused-of (readAirframeOf s) (read-outcome s) e
 
--- "absent wash is all zeros" (01, module 5)
+-- the numbers of a wash that is not there are zeros (01, module 5)
 pub absent-wash : (s : List ℕ) (h : Header) → h .wash ≡ false → washFrom (numbersFrom s h) ≡ zeroWash
 unfolding washFrom numbersFrom segmentsOf putSegments putSegment putNumbers zeroWash
 absent-wash s h e = simp e

@@ -47,8 +47,8 @@ rowBytes = 13
 abbrev pub mostBytes : ℕ
 mostBytes = headerBytes + numberBytes * numbersCount + rowBytes * 31
 
--- ---- the header: version 4 bits, falloff kind 2, wash present 1, reserved 4, row count 5, packed most significant first into
--- the bytes a and b
+-- ---- the header, bytes a and b, from the top bit down: 4 bits of version, 2 of the falloff's kind, 1 for a wash, 4 reserved, 5 of
+-- the row count
 unfoldable pub headerOf : ℕ → ℕ → Header
 headerOf a b = record {
   version = a / 16;
@@ -74,7 +74,7 @@ segmentsEnd i (x ∷ more) = segmentsEnd (i + segmentBytes x) more
 unfoldable pub rowsAt : Header → ℕ
 rowsAt h = segmentsEnd headerBytes (segmentsOf h)
 
--- "166 bytes + 28 for wash + 13 a row"
+-- 166 bytes, 28 more with a wash, 13 more for each row
 unfoldable pub bytesOf : Header → ℕ
 bytesOf h = rowsAt h + rowBytes * h .rows
 
@@ -148,7 +148,7 @@ modelOf xs kind = record {
   «thrust_line_below_cg_m» = place xs 38;
 }
 
--- 42 disc, 43 surface and 44 roll fraction, 45 pitch and 46 stall pitch moment, 47 sink loss, 48 damping
+-- the wash, 42 to 48
 unfoldable pub washFrom : List Float → PropWash
 washFrom xs = record {
   «disc_area_m2» = place xs 42;
@@ -173,7 +173,7 @@ layoutOf xs = record {
 abbrev pub motorConstant : List Float → Float
 motorConstant xs = place xs 39
 
--- ---- rows of 13 bytes: kind 1 bit (0 motor, 1 servo), slot 3, reserved 4, roll, pitch, yaw
+-- ---- rows: a byte with the kind in bit 7, 1 for a servo, the slot in bits 6..4 and 0 in the others; then three factors
 
 unfoldable pub slotOf : ℕ → Slot
 slotOf b = cond (eqb (b / 128) 0) (Motor (b / 16 % 8)) (Servo (b / 16 % 8))
@@ -202,7 +202,8 @@ rowClear s start k = eqb (byteAt s (start + rowBytes * k) % 16) 0
 unfoldable pub reservedRow : List ℕ → ℕ → ℕ → ℕ
 reservedRow s start count = firstFail (rowClear s start) 0 count
 
--- ---- "Row factors: 0, or size 0.01..10; a bad one has place 49": every row is tested, also one that a later row of its slot overwrites
+-- ---- place 49 (01, "Airframe numbers by place"): a factor is 0 or of a size from 0.01 to 10; every row is tested, also one that a
+-- later row of its slot overwrites
 unfoldable pub factorFits : Float → Bool
 factorFits x = cond (eq x nought) true (inside (rounded 1 100) (rounded 10 1) (sizeOf x))
 
@@ -228,7 +229,7 @@ airframeBy xs h rows = record {
 
 -- ---- reading (01, "What the bench replies", the order of an airframe)
 
--- "A refused read returns an airframe (falloff Linear 0, no wash, no motor used) .. of zeros"
+-- a refused read gives the zero airframe
 unfoldable pub refusedAirframe : Answer → AirframeRead
 refusedAirframe a = record { answer = a; airframe = zeroAirframe }
 

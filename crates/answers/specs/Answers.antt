@@ -16,7 +16,7 @@ numberOf StateOutside = 7
 numberOf StepOutside = 8
 numberOf Departure = 9
 
--- place is 0 except for 6
+-- the place is that of answer 6, and 0 of every other
 abbrev pub placeOf : Answer → ℕ
 placeOf (NumberOutOfRange p) = p
 placeOf Done = 0

@@ -9,7 +9,7 @@ pub enum Answer {
     WrongFalloff,
     ReservedBit,
     TooManyRows,
-    // An airframe number out of range, with its place.
+    // With the place of the number.
     NumberOutOfRange(u32),
     StateOutside,
     StepOutside,

@@ -1,4 +1,4 @@
--- A state read from its own array is the state again, and an airframe read from its own array the airframe: so a tick of a prepared airframe is the tick of the airframe that was read. Arrays have 8 elements, which their types
+-- A state or a tick read from its own array is the same again, and an airframe read from its own array the airframe: so a tick of a prepared airframe is the tick of the airframe that was read. Arrays have 8 elements, which their types
 -- tell. Assumes nothing.
 use Prim.Native.Nat.{ℕ}
 use lib.Ieee.{nan}
@@ -14,12 +14,13 @@ use Rattle.mixers.specs.Slots.{flagAt, listFrom, listOf, slots, vecAt as slotVe
 use Rattle.fixed_wing.specs.declared.ThrustFalloff.{ThrustFalloff}
 use Rattle.fixed_wing.specs.declared.ThrustFalloff.the-variants.{Linear, PitchSpeed}
 use Rattle.flight.specs.declared.Flight.{Flight}
+use Rattle.flight.specs.declared.Tick.{Tick}
 use Rattle.float.proofs.Zeros.{some-not-zero, zero-is-zero}
 use Rattle.mixers.proofs.Slots.{map-slots}
 use Rattle.vector.specs.Vector.{vec}
 use Rattle.vector.specs.declared.Vec3.{Vec3}
 use Rattle.arrays.specs.Airframe.{airframeNumber, airframeNumbers, airframeIn, axisOf, flagNumber, flagsIn, isSet, kindNumber, kindOf, motorsIn, placesIn, vecsIn, vecsNumber}
-use Rattle.arrays.specs.Flight.{flightNumbers, flightIn, quatIn, slotsIn, vecIn}
+use Rattle.arrays.specs.Flight.{flightNumbers, flightIn, quatIn, slotsIn, tickIn, tickNumbers, vecIn}
 
 -- a list of 8 by its elements
 slots-again : {X : Type 0} (d : X) (xs : List X) → length xs ≡ 8 → slots (λ (k : ℕ). getD xs k d) ≡ xs
@@ -31,6 +32,15 @@ flight-again f m s = λ i. record {
   body = f .body;
   motors = slots-again nan (f .motors) m i;
   servos = slots-again nan (f .servos) s i;
+}
+
+pub tick-again : (t : Tick) → length (t .motors) ≡ 8 → length (t .servos) ≡ 8 → tickIn (tickNumbers t) ≡ t
+unfolding tickIn tickNumbers vecIn slotsIn
+tick-again t m s = λ i. record {
+  «step_s» = t .«step_s»;
+  «wind_ned_mps» = t .«wind_ned_mps»;
+  motors = slots-again nan (t .motors) m i;
+  servos = slots-again nan (t .servos) s i;
 }
 
 -- a falloff by its kind and number, a flag by its number

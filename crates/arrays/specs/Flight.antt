@@ -15,11 +15,11 @@ use Rattle.vector.specs.declared.Quaternion.{Quaternion}
 use Rattle.vector.specs.declared.Vec3.{Vec3}
 
 -- how many numbers a state and a tick have
-abbrev pub stateNumbers : ℕ
-stateNumbers = stateBytes / numberBytes
+abbrev pub stateNumbersCount : ℕ
+stateNumbersCount = stateBytes / numberBytes
 
-abbrev pub tickNumbers : ℕ
-tickNumbers = tickBytes / numberBytes
+abbrev pub tickNumbersCount : ℕ
+tickNumbersCount = tickBytes / numberBytes
 
 unfoldable pub vecIn : List Float → ℕ → Vec3
 vecIn xs i = vec (at xs i) (at xs (i + 1)) (at xs (i + 2))
@@ -52,7 +52,7 @@ tickIn xs = record {
   servos = slotsIn xs (servoCommandsAt / numberBytes);
 }
 
--- the array of a state: position, velocity, attitude w i j k, body rates, running motors, running servos
+-- the array of a state: its numbers, in order
 abbrev vecThen : Vec3 → List Float → List Float
 vecThen v more = v .x ∷ v .y ∷ v .z ∷ more
 
@@ -69,3 +69,7 @@ bodyThen b more =
 
 unfoldable pub flightNumbers : Flight → List Float
 flightNumbers f = bodyThen (f .body) (slotsThen (f .motors) (slotsThen (f .servos) []))
+
+-- the array of a tick: step, wind, motor commands, servo commands
+unfoldable pub tickNumbers : Tick → List Float
+tickNumbers t = t .«step_s» ∷ vecThen (t .«wind_ned_mps») (slotsThen (t .motors) (slotsThen (t .servos) []))

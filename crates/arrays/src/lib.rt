@@ -2,6 +2,7 @@
 // and of the tick block in their order, and an airframe that was read, prepared for many ticks.
 ghost use mathlib.Core.Path.{_≡_};
 ghost use Prim.Native.Nat.{_+_, _<_, _≤_};
+ghost use lib.ListN.{length};
 ghost use Rattle.airframe.specs.Acceptance.{refusedPlace};
 ghost use Rattle.airframe.specs.Numbers.{numbersCount, numbersOf};
 ghost use Rattle.mixers.specs.Slots.{at, flagAt};
@@ -99,7 +100,7 @@ fn slots_in(xs: &[f32], at: usize) -> [f32; 8]
 
 // The state of an array.
 pub fn flight_in(xs: &[f32]) -> Flight
-    requires { do ⌜ FlightArray.stateNumbers ≤ (← ⟦xs.len()⟧) ⌝ }
+    requires { do ⌜ FlightArray.stateNumbersCount ≤ (← ⟦xs.len()⟧) ⌝ }
     ensures { λ r. ⌜ r ≡ FlightArray.flightIn (now (xs .entry)) ⌝ }
 {
     let position_ned_m = vec_in(xs, 0);
@@ -123,7 +124,7 @@ pub fn flight_in(xs: &[f32]) -> Flight
 
 // The tick of an array.
 pub fn tick_in(xs: &[f32]) -> Tick
-    requires { do ⌜ FlightArray.tickNumbers ≤ (← ⟦xs.len()⟧) ⌝ }
+    requires { do ⌜ FlightArray.tickNumbersCount ≤ (← ⟦xs.len()⟧) ⌝ }
     ensures { λ r. ⌜ r ≡ FlightArray.tickIn (now (xs .entry)) ⌝ }
 {
     let wind_ned_mps = vec_in(xs, WIND_AT);
@@ -181,17 +182,65 @@ pub fn flight_numbers(f: Flight) -> [f32; STATE_NUMBERS]
     ]
 }
 
-// The state's numbers into an array of as many.
-pub fn put_flight(xs: &mut [f32], f: Flight)
-    requires { do ⌜ (← ⟦xs.len()⟧) ≡ FlightArray.stateNumbers ⌝ }
-    ensures { λ _. ⌜ now (xs .exit) ≡ FlightArray.flightNumbers f ⌝ }
+// A tick's numbers in the tick block's order.
+pub fn tick_numbers(t: Tick) -> [f32; TICK_NUMBERS]
+    ensures { λ r. ⌜ r ≡ FlightArray.tickNumbers t ⌝ }
 {
-    let numbers = flight_numbers(f);
+    let w = t.wind_ned_mps;
+    let m = t.motors;
+    let s = t.servos;
+    [
+        t.step_s,
+        w.x,
+        w.y,
+        w.z,
+        m[0],
+        m[1],
+        m[2],
+        m[3],
+        m[4],
+        m[5],
+        m[6],
+        m[7],
+        s[0],
+        s[1],
+        s[2],
+        s[3],
+        s[4],
+        s[5],
+        s[6],
+        s[7],
+    ]
+}
+
+// The numbers into an array of as many.
+fn put_numbers(xs: &mut [f32], numbers: &[f32])
+    requires { ⌜ length (now xs) ≡ length (now numbers) ⌝ }
+    ensures { λ _. ⌜ now (xs .exit) ≡ now (numbers .entry) ⌝ }
+{
     let mut i = 0usize;
-    while i < STATE_NUMBERS {
+    while i < numbers.len() {
         xs[i] = numbers[i];
         i += 1;
     }
+}
+
+// The state's numbers into an array of as many.
+pub fn put_flight(xs: &mut [f32], f: Flight)
+    requires { do ⌜ (← ⟦xs.len()⟧) ≡ FlightArray.stateNumbersCount ⌝ }
+    ensures { λ _. ⌜ now (xs .exit) ≡ FlightArray.flightNumbers f ⌝ }
+{
+    let numbers = flight_numbers(f);
+    put_numbers(xs, &numbers);
+}
+
+// The tick's numbers into an array of as many.
+pub fn put_tick(xs: &mut [f32], t: Tick)
+    requires { do ⌜ (← ⟦xs.len()⟧) ≡ FlightArray.tickNumbersCount ⌝ }
+    ensures { λ _. ⌜ now (xs .exit) ≡ FlightArray.tickNumbers t ⌝ }
+{
+    let numbers = tick_numbers(t);
+    put_numbers(xs, &numbers);
 }
 
 // 0 for a zero of either sign, else 1.

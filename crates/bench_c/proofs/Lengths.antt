@@ -8,7 +8,7 @@ use borrow.Author.Tests.{eqb-true}
 use lib.Dec.{eqb}
 use mathlib.Core.Bool.{Bool, _&&_, false, true}
 use mathlib.Core.Path.{_≡_, refl}
-use Rattle.arrays.specs.Flight.{stateNumbers, tickNumbers}
+use Rattle.arrays.specs.Flight.{stateNumbersCount, tickNumbersCount}
 use Rattle.bench_c.specs.Library.{pairLengths, reportNumbersCount, tickLengths}
 
 -- both sides of a test that is passed
@@ -22,16 +22,16 @@ second false true e = refl
 second false false e = e
 
 -- the three arrays of a tick
-pub arrays-fit : (s t r : ℕ) → tickLengths s t r ≡ true → (s ≡ stateNumbers) × ((t ≡ tickNumbers) × (r ≡ reportNumbersCount))
+pub arrays-fit : (s t r : ℕ) → tickLengths s t r ≡ true → (s ≡ stateNumbersCount) × ((t ≡ tickNumbersCount) × (r ≡ reportNumbersCount))
 unfolding tickLengths
 arrays-fit s t r e =
-    let f = first (eqb s stateNumbers && eqb t tickNumbers) (eqb r reportNumbersCount) e in
-    (eqb-true s stateNumbers (first (eqb s stateNumbers) _ f), (eqb-true t tickNumbers (second (eqb s stateNumbers) _ f), eqb-true r reportNumbersCount (second (eqb s stateNumbers && eqb t tickNumbers) _ e)))
+    let f = first (eqb s stateNumbersCount && eqb t tickNumbersCount) (eqb r reportNumbersCount) e in
+    (eqb-true s stateNumbersCount (first (eqb s stateNumbersCount) _ f), (eqb-true t tickNumbersCount (second (eqb s stateNumbersCount) _ f), eqb-true r reportNumbersCount (second (eqb s stateNumbersCount && eqb t tickNumbersCount) _ e)))
 
 -- the two arrays of a pair
-pub pair-fits : (s r : ℕ) → pairLengths s r ≡ true → (s ≡ stateNumbers) × (r ≡ stateNumbers)
+pub pair-fits : (s r : ℕ) → pairLengths s r ≡ true → (s ≡ stateNumbersCount) × (r ≡ stateNumbersCount)
 unfolding pairLengths
-pair-fits s r e = (eqb-true s stateNumbers (first (eqb s stateNumbers) _ e), eqb-true r stateNumbers (second (eqb s stateNumbers) _ e))
+pair-fits s r e = (eqb-true s stateNumbersCount (first (eqb s stateNumbersCount) _ e), eqb-true r stateNumbersCount (second (eqb s stateNumbersCount) _ e))
 
 -- an array of 3 with each number set
 pub set-three : (xs : List Float) (a b c : Float) → length xs ≡ 3 → set (set (set xs 0 a) 1 b) 2 c ≡ a ∷ b ∷ c ∷ []

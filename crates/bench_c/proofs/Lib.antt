@@ -1,3 +1,5 @@
 -- Laws of the library.
 pub mod Lengths
 pub mod Prepared
+pub mod Pair
+pub mod Chain

@@ -4,21 +4,25 @@ use Prim.Native.Nat.{_*_, _+_, ℕ}
 use lib.Dec.{eqb}
 use lib.Ieee.{Float}
 use lib.ListN.{length}
-use mathlib.Core.Bool.{Bool, _&&_, cond}
+use mathlib.Core.Bool.{Bool, _&&_, cond, true}
 use mathlib.Core.List.{List, [], _∷_}
+use mathlib.Core.Path.{_≡_}
 use Rattle.airframe.specs.Reflection.{reflectAirframe}
 use Rattle.airframe_block.specs.Block.{readAirframeOf}
 use Rattle.airframe_block.specs.declared.AirframeRead.{AirframeRead}
 use Rattle.answers.specs.Answers.{numberOf, placeOf}
 use Rattle.answers.specs.declared.Answer.{Answer}
-use Rattle.flight.specs.Reflection.{reflectFlight}
+use Rattle.answers.specs.declared.Answer.the-variants.{WrongLength}
+use Rattle.flight.specs.Envelope.{outsideOf}
+use Rattle.flight.specs.Reflection.{FlightRel, reflectFlight}
 use Rattle.flight.specs.declared.Flight.{Flight}
 use Rattle.flight.specs.declared.Tick.{Tick}
 use Rattle.arrays.specs.Airframe.{airframeNumbers, airframeNumbersCount, airframeIn}
-use Rattle.arrays.specs.Flight.{flightNumbers, flightIn, stateNumbers, tickNumbers, tickIn}
-use Rattle.run.specs.Run.{ended, ranOf, reflectTrace}
+use Rattle.arrays.specs.Flight.{flightNumbers, flightIn, stateNumbersCount, tickIn, tickNumbers, tickNumbersCount}
+use Rattle.run.specs.Mirrored.{Mirrored}
+use Rattle.run.specs.Run.{ended, isWhole, ranOf, reflectTrace}
 use Rattle.run.specs.declared.Ran.{Ran}
-use Rattle.state_block.specs.Layout.{readStateOf, writeAnswer, writtenState}
+use Rattle.state_block.specs.Layout.{readStateOf, readTickOf, stateBytes, tickBytes, writeAnswer, writtenState, writtenTick}
 use Rattle.wing.specs.Tick.{refusedOf, tickOf}
 use Rattle.wing.specs.declared.Report.{Report}
 use Rattle.wing.specs.declared.Ticked.{Ticked}
@@ -56,7 +60,7 @@ prepare block airframe =
 unfoldable pub readState : List ℕ → List Float → Filled
 readState block state =
     let x = readStateOf block in
-    cond (holds state stateNumbers)
+    cond (holds state stateNumbersCount)
     (record { reply = replyOf (x .answer); numbers = flightNumbers (x .flight) })
     (record { reply = wrongLength; numbers = state })
 
@@ -68,8 +72,23 @@ pub record Written : Type 0 where
 -- bench_write_state: a state's array into a block
 unfoldable pub writeState : List Float → List ℕ → Written
 writeState state block =
-    cond (holds state stateNumbers)
-    (record { reply = replyOf (writeAnswer block); block = writtenState block (flightIn state) })
+    cond (holds state stateNumbersCount)
+    (record { reply = replyOf (writeAnswer stateBytes block); block = writtenState block (flightIn state) })
+    (record { reply = wrongLength; block = block })
+
+-- bench_read_tick: a tick block into an array; a refused block gives a tick of zeros
+unfoldable pub readTick : List ℕ → List Float → Filled
+readTick block t =
+    let x = readTickOf block in
+    cond (holds t tickNumbersCount)
+    (record { reply = replyOf (x .answer); numbers = tickNumbers (x .tick) })
+    (record { reply = wrongLength; numbers = t })
+
+-- bench_write_tick: a tick's array into a block
+unfoldable pub writeTick : List Float → List ℕ → Written
+writeTick t block =
+    cond (holds t tickNumbersCount)
+    (record { reply = replyOf (writeAnswer tickBytes block); block = writtenTick block (tickIn t) })
     (record { reply = wrongLength; block = block })
 
 -- ---- a tick
@@ -107,7 +126,7 @@ tickedBy x f t = cond (isDone (x .answer)) (tickOf (x .airframe) f t) (refusedOf
 
 -- whether the lengths are those of a state, a tick and a report
 unfoldable pub tickLengths : ℕ → ℕ → ℕ → Bool
-tickLengths state t report = eqb state stateNumbers && eqb t tickNumbers && eqb report reportNumbersCount
+tickLengths state t report = eqb state stateNumbersCount && eqb t tickNumbersCount && eqb report reportNumbersCount
 
 -- bench_tick: with the airframe as its block
 unfoldable pub tick : List ℕ → List Float → List Float → List Float → TickOutcome
@@ -123,22 +142,42 @@ tickPrepared airframe state t report =
     (tested state (tickOf (airframeIn airframe) (flightIn state) (tickIn t)))
     (untested state report)
 
+-- ---- tick calls one after another (run/specs/Calls.antt), each fed the state's array that the last one left
+
+-- one call, with the block or with a prepared airframe, on arrays that fit: what it finds, its outcome, and the array it leaves
+pub record ArrayCall (call : List Float → List Float → List Float → TickOutcome) (state t : List Float) (o : TickOutcome)
+    (after : List Float) : Type 0 where
+  pub report : List Float
+  pub fit : tickLengths (length state) (length t) (length report) ≡ true
+  pub answered : o ≡ call state t report
+  pub left : after ≡ o .state
+
+-- an outcome tells what the definition's call gives: its answer and place, its state and its report
+pub record Tells (o : TickOutcome) (k : Ticked) : Type 0 where
+  pub reply : o .reply ≡ replyOf (k .report .answer)
+  pub state : flightIn (o .state) ≡ k .flight
+  pub report : o .report ≡ reportNumbers (k .report)
+
 -- ---- a run, and the mirrored pair
 
 -- the state's array afterwards: as found where the run is refused
 unfoldable pub stateAfterRun : List Float → Ran → List Float
 stateAfterRun state r = cond (isDone (r .answer)) (flightNumbers (r .flight)) state
 
--- a block that is refused leaves the state, with its own answer and no accepted tick
+-- a trace that is not whole ticks first, then a block that is refused, with its own answer: either leaves the state, with no
+-- accepted tick
 unfoldable pub ranBy : AirframeRead → Flight → List ℕ → Ran
-ranBy x f trace = cond (isDone (x .answer)) (ranOf (x .airframe) f trace) (ended (x .answer) f 0)
+ranBy x f trace =
+    cond (isWhole trace) (cond (isDone (x .answer)) (ranOf (x .airframe) f trace) (ended (x .answer) f 0)) (ended WrongLength f 0)
 
 -- the run's reflection: reflected airframe, state and ticks
 unfoldable pub reflectedBy : AirframeRead → Flight → List ℕ → Ran
 reflectedBy x f trace =
-    cond (isDone (x .answer))
+    cond (isWhole trace)
+    (cond (isDone (x .answer))
     (ranOf (reflectAirframe (x .airframe)) (reflectFlight f) (reflectTrace trace))
-    (ended (x .answer) (reflectFlight f) 0)
+    (ended (x .answer) (reflectFlight f) 0))
+    (ended WrongLength (reflectFlight f) 0)
 
 -- what a run gives back
 pub record RunOutcome : Type 0 where
@@ -150,7 +189,7 @@ pub record RunOutcome : Type 0 where
 unfoldable pub run : List ℕ → List Float → List ℕ → RunOutcome
 run block state trace =
     let r = ranBy (readAirframeOf block) (flightIn state) trace in
-    cond (holds state stateNumbers)
+    cond (holds state stateNumbersCount)
     (record { reply = replyOf (r .answer); state = stateAfterRun state r; accepted = r .accepted })
     (record { reply = wrongLength; state = state; accepted = 0 })
 
@@ -164,7 +203,7 @@ pub record PairOutcome : Type 0 where
 
 -- whether the lengths are those of two states
 unfoldable pub pairLengths : ℕ → ℕ → Bool
-pairLengths state reflected = eqb state stateNumbers && eqb reflected stateNumbers
+pairLengths state reflected = eqb state stateNumbersCount && eqb reflected stateNumbersCount
 
 -- bench_mirrored_pair: r the run, s its reflection
 unfoldable pub mirroredPair : List ℕ → List Float → List Float → List ℕ → PairOutcome
@@ -180,3 +219,11 @@ mirroredPair block state reflected trace =
       acceptedReflected = s .accepted;
     })
     (record { reply = wrongLength; state = state; reflected = reflected; accepted = 0; acceptedReflected = 0 })
+
+-- Demand 3 of what a pair that is done leaves: the end states in the two arrays are each other's reflections number for number, and
+-- the counts are equal; and where the state that was found is accepted, all of demand 3 holds of the block's airframe and that state,
+-- over every list of ticks (run/specs/Mirrored.antt).
+pub record PairMirrors (block : List ℕ) (found state reflected : List Float) (accepted acceptedReflected : ℕ) : Type 0 where
+  pub states : FlightRel (flightIn state) (flightIn reflected)
+  pub count : acceptedReflected ≡ accepted
+  pub theorem : outsideOf (flightIn found) ≡ 0 → (ts : List Tick) → Mirrored (readAirframeOf block .airframe) (flightIn found) ts

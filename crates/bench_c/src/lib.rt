@@ -9,9 +9,11 @@ ghost use Rattle.libm.specs.Exp.{expOf};
 ghost use Rattle.libm.specs.Sqrt.{sqrtOf};
 ghost use Rattle.libm.specs.Trig.{sinOf, cosOf};
 ghost use Rattle.arrays.specs.Airframe.{airframeNumbersCount, airframeIn};
-ghost use Rattle.arrays.specs.Flight.{stateNumbers};
+ghost use Rattle.arrays.specs.Flight.{stateNumbersCount};
+ghost use Rattle.flight.specs.Reflection.{reflectFlight};
 ghost use Rattle.run.specs.Run as Run;
 ghost use Rattle.wing.specs.Tick.{tickOf};
+ghost use Rattle.bench_c.specs.Contracts as Contracts;
 ghost use Rattle.bench_c.specs.Library as Library;
 use airframe_block::AirframeRead;
 use answers::Answer;
@@ -126,6 +128,35 @@ pub extern "C" fn bench_write_state(state: &[f32], block: &mut [u8]) -> u64
     reply(answer)
 }
 
+// Reads a tick block into an array; a refused block gives a tick of zeros.
+#[no_mangle]
+pub extern "C" fn bench_read_tick(block: &[u8], tick: &mut [f32]) -> u64
+    ensures { λ r. ⌜ (let o = Library.readTick (now (block .entry)) (now (tick .entry)) in
+        (r ≡ o .reply) × (now (tick .exit) ≡ o .numbers)) ⌝ }
+{
+    let lent = tick.len();
+    if lent != arrays::TICK_NUMBERS {
+        return 1;
+    }
+    let read = state_block::read_tick_block(block);
+    let answer = read.answer;
+    arrays::put_tick(tick, read.tick);
+    reply(answer)
+}
+
+// Writes a tick's array into a block of 80 bytes.
+#[no_mangle]
+pub extern "C" fn bench_write_tick(tick: &[f32], block: &mut [u8]) -> u64
+    ensures { λ r. ⌜ (let o = Library.writeTick (now (tick .entry)) (now (block .entry)) in
+        (r ≡ o .reply) × (now (block .exit) ≡ o .block)) ⌝ }
+{
+    if tick.len() != arrays::TICK_NUMBERS {
+        return 1;
+    }
+    let answer = state_block::write_tick(block, arrays::tick_in(tick));
+    reply(answer)
+}
+
 // Whether a tick's arrays have their lengths.
 fn arrays_fit(state: usize, tick: usize, report: usize) -> bool
     ensures { λ r. ⌜ r ≡ Library.tickLengths state tick report ⌝ }
@@ -174,7 +205,7 @@ fn put_report(array: &mut [f32], r: Report)
 
 // The state's numbers into its array, which a refused tick leaves as found.
 fn put_kept(state: &mut [f32], done: Ticked)
-    requires { do ⌜ (← ⟦state.len()⟧) ≡ stateNumbers ⌝ }
+    requires { do ⌜ (← ⟦state.len()⟧) ≡ stateNumbersCount ⌝ }
     ensures { λ _. ⌜ now (state .exit) ≡ Library.stateAfterTick (now (state .entry)) done ⌝ }
 {
     let report = done.report;
@@ -186,7 +217,7 @@ fn put_kept(state: &mut [f32], done: Ticked)
 
 // What a tick gave, into the caller's arrays.
 fn handed_back(done: Ticked, state: &mut [f32], report: &mut [f32]) -> u64
-    requires { do ⌜ (← ⟦state.len()⟧) ≡ stateNumbers ⌝ ∗ do ⌜ (← ⟦report.len()⟧) ≡ Library.reportNumbersCount ⌝ }
+    requires { do ⌜ (← ⟦state.len()⟧) ≡ stateNumbersCount ⌝ ∗ do ⌜ (← ⟦report.len()⟧) ≡ Library.reportNumbersCount ⌝ }
     ensures { λ r. ⌜ (let o = Library.tested (now (state .entry)) done in
         (r ≡ o .reply) × (now (state .exit) ≡ o .state) × (now (report .exit) ≡ o .report)) ⌝ }
 {
@@ -197,7 +228,7 @@ fn handed_back(done: Ticked, state: &mut [f32], report: &mut [f32]) -> u64
     reply(answer)
 }
 
-// One tick of the state in its array, with the airframe as its block: a refused tick leaves the state, and reports zeros.
+// One tick of the state in its array, with the airframe as its block. Refused, it reports zeros and does not write the state.
 #[no_mangle]
 pub extern "C" fn bench_tick(
     airframe: &[u8],
@@ -254,30 +285,43 @@ fn ended(answer: Answer, flight: Flight) -> Ran
 fn ran_by(read: AirframeRead, f: Flight, trace: &[u8]) -> Ran
     ensures { λ r. ⌜ r ≡ Library.ranBy read f (now (trace .entry)) ⌝ }
 {
-    let answer = read.answer;
-    if answer.number() == 0 {
-        return run::run(read.airframe, f, trace);
+    if run::is_whole(trace) {
+        let answer = read.answer;
+        if answer.number() == 0 {
+            return run::run(read.airframe, f, trace);
+        }
+        return ended(answer, f);
     }
-    ended(answer, f)
+    ended(Answer::WrongLength, f)
 }
 
-// The run of an airframe that was read, and its reflection.
-fn pair_by(read: AirframeRead, f: Flight, trace: &[u8]) -> Pair
-    ensures { λ r. ⌜ r .first ≡ Library.ranBy read f (now (trace .entry)) ⌝ }
-    ensures { λ r. ⌜ r .second ≡ Library.reflectedBy read f (now (trace .entry)) ⌝ }
+// A run that is refused, and its reflection.
+fn ended_pair(answer: Answer, f: Flight) -> Pair
+    ensures { λ r. ⌜ r .first ≡ Run.ended answer f 0 ⌝ }
+    ensures { λ r. ⌜ r .second ≡ Run.ended answer (reflectFlight f) 0 ⌝ }
 {
-    let answer = read.answer;
-    if answer.number() == 0 {
-        return run::mirrored_pair(read.airframe, f, trace);
-    }
     let first = ended(answer, f);
     let second = ended(answer, f.reflected());
     Pair { first, second }
 }
 
+// The run of an airframe that was read, and its reflection.
+fn pair_by(read: AirframeRead, f: Flight, trace: &[u8]) -> Pair
+    ensures { λ r. ⌜ Contracts.PairBy read f (now (trace .entry)) r ⌝ }
+{
+    if run::is_whole(trace) {
+        let answer = read.answer;
+        if answer.number() == 0 {
+            return run::mirrored_pair(read.airframe, f, trace);
+        }
+        return ended_pair(answer, f);
+    }
+    ended_pair(Answer::WrongLength, f)
+}
+
 // A run's end state into its array, which a refused run leaves as found.
 fn put_end(state: &mut [f32], done: Ran)
-    requires { do ⌜ (← ⟦state.len()⟧) ≡ stateNumbers ⌝ }
+    requires { do ⌜ (← ⟦state.len()⟧) ≡ stateNumbersCount ⌝ }
     ensures { λ _. ⌜ now (state .exit) ≡ Library.stateAfterRun (now (state .entry)) done ⌝ }
 {
     let answer = done.answer;
@@ -321,7 +365,7 @@ fn pair_fits(state: usize, reflected: usize) -> bool
 }
 
 // Flies the trace from the state in its array and its reflection from the reflected state, and counts the accepted ticks of both.
-// The end states go into both arrays; a refused run leaves them.
+// The end states go into both arrays; a refused run leaves them. Where it is done, what it leaves mirrors (demand 3).
 #[no_mangle]
 pub extern "C" fn bench_mirrored_pair(
     airframe: &[u8],
@@ -335,6 +379,8 @@ pub extern "C" fn bench_mirrored_pair(
         Library.mirroredPair (now (airframe .entry)) (now (state .entry)) (now (reflected .entry)) (now (trace .entry)) in
         (r ≡ o .reply) × (now (state .exit) ≡ o .state) × (now (reflected .exit) ≡ o .reflected)
         × (now (accepted .exit) ≡ o .accepted) × (now («accepted_reflected» .exit) ≡ o .acceptedReflected)) ⌝ }
+    ensures { λ r. ⌜ (r ≡ 0 → Library.PairMirrors (now (airframe .entry)) (now (state .entry)) (now (state .exit))
+        (now (reflected .exit)) (now (accepted .exit)) (now («accepted_reflected» .exit))) ⌝ }
 {
     if pair_fits(state.len(), reflected.len()) {
         let f = arrays::flight_in(state);

@@ -1,4 +1,4 @@
--- One step of the rigid body, semi-implicit Euler (01, module 7: velocity first, position with the new one). Definitions only.
+-- One step of the rigid body, semi-implicit Euler: the position moves with the new velocity (01, module 7). Definitions only.
 use lib.Ieee.{Float}
 use Rattle.float.specs.Notation.{nought, rounded}
 use Rattle.vector.specs.Rotation.{fromScaledAxis, renormalized, timesOf}
@@ -9,7 +9,7 @@ use Rattle.body.specs.declared.Body.{Body}
 use Rattle.body.specs.declared.Loads.{Loads}
 use Rattle.body.specs.declared.MassProperties.{MassProperties}
 
--- "gravity 9.80665"
+-- gravity, in m/s²
 abbrev pub gravity : Float
 gravity = rounded 980665 100000
 

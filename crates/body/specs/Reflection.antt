@@ -14,7 +14,7 @@ reflectBody b = record {
   «angular_velocity_radps» = reflectAxis (b .«angular_velocity_radps»);
 }
 
--- number for number, two zeros counting as equal
+-- the same, compared as numbers: 0 and -0 are one
 pub record BodyRel (b b' : Body) : Type 0 where
   pub position : VecRel false (b .«position_ned_m») (b' .«position_ned_m»)
   pub velocity : VecRel false (b .«velocity_ned_mps») (b' .«velocity_ned_mps»)

@@ -1,44 +1,44 @@
-// Rigid-body motion in the NED world frame and FRD body frame.
+// 01, module 7: the body and its step. World axes are NED, body axes FRD.
 ghost use mathlib.Core.Path.{_≡_};
 ghost use Rattle.body.specs.Motion as Motion;
 ghost use Rattle.body.specs.Reflection as Reflection;
 use vector::Quaternion;
 use vector::Vec3;
 
-// Standard gravity, in m/s².
+// g, in m/s² towards +z.
 const GRAVITY: f32 = 9.80665;
 
-// The body's state: world NED (z down), body FRD.
+// The first 13 numbers of a state.
 pub struct Body {
-    // World position (north, east, down), in m.
+    // Position, in m.
     pub position_ned_m: Vec3,
-    // World velocity (north, east, down), in m/s.
+    // Velocity over the ground, in m/s.
     pub velocity_ned_mps: Vec3,
-    // `attitude` turns a vector on body axes into world axes.
+    // Rotates from body axes to NED axes.
     pub attitude: Quaternion,
-    // FRD body rates (roll, pitch, yaw), in rad/s.
+    // p, q and r, in rad/s.
     pub angular_velocity_radps: Vec3,
 }
 
-// A body's mass and principal moments of inertia.
+// Places 1 to 4 of an airframe.
 pub struct MassProperties {
     pub mass_kg: f32,
-    // About the FRD body axes (roll, pitch, yaw).
+    // The principal moments of inertia, about body x, y and z.
     pub inertia_kgm2: Vec3,
 }
 
-// The forces and torques on the body during one step, gravity aside.
+// What acts on the body over a step, without its weight.
 pub struct Loads {
-    // Force (north, east, down): thrust, drag and lift.
+    // F of module 7, on NED axes.
     pub force_ned_n: Vec3,
-    // Torque on the FRD body axes.
+    // On body axes, as the damping is.
     pub torque_nm: Vec3,
-    // Rotational damping torque: subtracted from the torque.
+    // Taken off the torque; the tick has zeros here.
     pub damping_nm: Vec3,
 }
 
 impl Body {
-    // Advances `h` seconds under `loads` and gravity: velocities first, then position and attitude from the new velocities.
+    // The body after a step of `h` seconds: its position moves with the new velocity, its attitude with the new rates.
     pub fn step(self, mass: MassProperties, loads: Loads, h: f32) -> Self
         ensures { λ r. ⌜ r ≡ Motion.stepOf self mass loads h ⌝ }
     {
@@ -60,7 +60,7 @@ impl Body {
         }
     }
 
-    // The body's velocity through the air (north, east, down) in the wind.
+    // Velocity minus wind, on NED axes.
     pub fn air_relative_velocity_ned_mps(self, wind_ned_mps: Vec3) -> Vec3
         ensures { λ r. ⌜ r ≡ Motion.airVelocity self «wind_ned_mps» ⌝ }
     {
@@ -94,7 +94,7 @@ fn acceleration(force_ned_n: Vec3, mass_kg: f32) -> Vec3
         .add(Vec3::new(0.0, 0.0, GRAVITY))
 }
 
-// Euler's equations for a diagonal inertia, gyroscopic term included.
+// torque - (ω cross (I·ω)) - damping.
 fn net_torque(rates: Vec3, inertia: Vec3, loads: Loads) -> Vec3
     ensures { λ r. ⌜ r ≡ Motion.netTorque rates inertia loads ⌝ }
 {
@@ -111,7 +111,7 @@ fn next_rates(rates: Vec3, inertia: Vec3, loads: Loads, h: f32) -> Vec3
     rates.add(turning.scale(h))
 }
 
-// Body rates turn the body frame, so the increment composes on the right.
+// The turn is about body axes, so it stands second in the product.
 fn next_attitude(attitude: Quaternion, rates: Vec3, h: f32) -> Quaternion
     ensures { λ r. ⌜ r ≡ Motion.nextAttitude attitude rates h ⌝ }
 {

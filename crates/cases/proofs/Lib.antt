@@ -1,2 +1,3 @@
--- The table, computed.
+-- The table, computed; and the cases that leave a number open.
 pub mod Computed
+pub mod Wide

@@ -1,2 +1,3 @@
 -- The proved cases. Definitions only.
 pub mod Table
+pub mod Wide

@@ -3,6 +3,7 @@
 use Prim.Native.Nat.{ℕ}
 use lib.Dec.{eqb}
 use lib.Ieee.{Float, binary32, inf, nan, neg, toBits}
+use lib.ListN.{replicate}
 use mathlib.Core.Bool.{Bool, _&&_, false, true}
 use mathlib.Core.List.{List, [], _∷_}
 use Rattle.aero.specs.Coefficients.{stallBlend}
@@ -14,11 +15,13 @@ use Rattle.float.specs.Same.{num}
 use Rattle.lag.specs.Lag.{approachOf, approachSaturated}
 use Rattle.libm.specs.Atan.{atan2Of}
 use Rattle.libm.specs.Sqrt.{sqrtOf}
-use Rattle.surfaces.specs.Surface.{weightAt}
+use Rattle.mixers.specs.Rows.{noRow}
+use Rattle.mixers.specs.Slots.{vecAt}
+use Rattle.mixers.specs.declared.Rows.{Rows}
+use Rattle.mixers.specs.declared.Slot.the-variants.{Servo}
+use Rattle.surfaces.specs.Surface.{surfacesOf}
 use Rattle.tailsitter_model.specs.Slipstream.{addedPa}
 use Rattle.tailsitter_model.specs.declared.PropWash.{PropWash}
-use Rattle.vector.specs.Vector.{vec, zeroVec}
-use Rattle.vector.specs.declared.Vec3.{Vec3}
 
 pub record Case : Type 0 where
   pub value : Float
@@ -67,9 +70,12 @@ disc = record {
   «stall_pitch_moment» = nought;
 }
 
--- one servo on slot 0, factor 0.5 on each axis
-unfoldable pub oneServo : List Vec3
-oneServo = vec half half half ∷ zeroVec ∷ zeroVec ∷ zeroVec ∷ zeroVec ∷ zeroVec ∷ zeroVec ∷ zeroVec ∷ []
+-- one row, of the servo at slot k, factor 0.5 on each axis; and the weight it gets
+unfoldable pub oneServo : ℕ → Rows
+oneServo k = record { rows = record { slot = Servo k; roll = half; pitch = half; yaw = half } ∷ replicate 15 noRow; count = 1 }
+
+abbrev servoWeight : ℕ → Float
+servoWeight k = vecAt (surfacesOf (oneServo k) .weights) k .x
 
 unfoldable pub table : List Case
 table =
@@ -89,8 +95,15 @@ table =
     ∷ is (stallBlend blunt half) 0x3F400000
     -- atan2(-0, -1) = 40490FDB
     ∷ is (atan2Of (neg nought) minusOne) 0x40490FDB
-    -- one servo, factor 0.5: weight 2
-    ∷ is (weightAt oneServo 0 .x) 0x40000000
+    -- one servo, factor 0.5: weight 2, whatever its slot
+    ∷ is (servoWeight 0) 0x40000000
+    ∷ is (servoWeight 1) 0x40000000
+    ∷ is (servoWeight 2) 0x40000000
+    ∷ is (servoWeight 3) 0x40000000
+    ∷ is (servoWeight 4) 0x40000000
+    ∷ is (servoWeight 5) 0x40000000
+    ∷ is (servoWeight 6) 0x40000000
+    ∷ is (servoWeight 7) 0x40000000
     -- sqrt(2) = 3FB504F3
     ∷ is (sqrtOf binary32 two) 0x3FB504F3
     -- thrust 0.6125, disc 1, sink loss 0.5, axial -1: added 0

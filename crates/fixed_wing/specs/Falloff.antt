@@ -1,4 +1,4 @@
--- The share of static thrust that airspeed leaves (01, module 4), and the aspect ratio. Definitions only.
+-- The falloff of thrust with forward airspeed (01, module 4), and the aspect ratio. Definitions only.
 use lib.Ieee.{Float, binary32, eq}
 use mathlib.Core.Bool.{cond}
 use Rattle.float.specs.Notation.{_⊖_, _⊗_, _⊘_, atLeastZero, nought, one}

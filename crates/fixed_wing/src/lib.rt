@@ -1,18 +1,18 @@
-// The physical parameters of a simulated airplane.
+// 01, module 4: what an airframe says of the aeroplane itself, and the falloff of thrust.
 ghost use mathlib.Core.Path.{_≡_};
 ghost use Rattle.fixed_wing.specs.Falloff.{falloffShare, pitchSpeedShare, aspectRatio};
 use vector::Vec3;
 
-// How a prop's thrust falls as the air comes through it faster.
+// Thrust by forward airspeed (place 37).
 pub enum ThrustFalloff {
-    // Each m/s takes this many N off the full-command thrust; 0 holds static thrust at any speed.
+    // Full thrust lost, in N for each m/s; with 0 thrust does not fall.
     Linear(f32),
-    // The air speed in m/s at which full-command thrust reaches 0; less at part throttle.
+    // Where full thrust is gone, in m/s; part thrust is gone sooner.
     PitchSpeed(f32),
 }
 
-// Dimensionless aerodynamic coefficients, in the stability-derivative form of Beard and McLain, Small Unmanned Aircraft, ch. 4.
-// Angles are in rad; rate derivatives take the rate normalized by airspeed.
+// Places 8 to 30 of an airframe, without units but for rad. Their form is that of chapter 4 of Beard and McLain's book, but for
+// what docs/DIFFERENCES.md lists; those of p, q and r go with p·b/2V, q·c/2V and r·b/2V.
 pub struct AeroCoefficients {
     pub c_lift_0: f32,
     pub c_lift_alpha: f32,
@@ -39,24 +39,23 @@ pub struct AeroCoefficients {
     pub c_yaw_rudder: f32,
 }
 
-// A rigid body with a wing, three control surfaces and props along body x. What the Rust's model says of the motors besides, their
-// thrust at full command, its exponent and their lag, stands with the group of motors.
+// The aeroplane without its motors, whose full thrust, exponent and lag the Rust has here and this code with the group of motors.
 pub struct FixedWingModel {
     pub mass_kg: f32,
-    // Principal moments of inertia about the FRD body axes (roll, pitch, yaw).
+    // About body x, y and z.
     pub inertia_kgm2: Vec3,
     pub wing_area_m2: f32,
     pub span_m: f32,
     pub chord_m: f32,
     pub aero: AeroCoefficients,
-    // Deflection at full servo command of the aileron (x), elevator (y) and rudder (z) axes.
+    // Aileron, elevator and rudder at full servo.
     pub max_deflection_rad: Vec3,
     pub servo_time_constant_s: f32,
     pub thrust_falloff: ThrustFalloff,
     pub thrust_line_below_cg_m: f32,
 }
 
-// Wing aspect ratio: span² over area.
+// AR = b·b/S.
 pub fn aspect_ratio(span_m: f32, wing_area_m2: f32) -> f32
     ensures { λ r. ⌜ r ≡ aspectRatio «span_m» «wing_area_m2» ⌝ }
 {
@@ -64,8 +63,7 @@ pub fn aspect_ratio(span_m: f32, wing_area_m2: f32) -> f32
 }
 
 impl ThrustFalloff {
-    // The share of a motor's static thrust left at `airspeed_mps` forward, for a motor at `thrust_share` of full static thrust
-    // `max_thrust_n`.
+    // What the forward airspeed leaves of a motor's thrust in still air, which is `thrust_share` of `max_thrust_n`.
     pub fn falloff_share(self, max_thrust_n: f32, thrust_share: f32, airspeed_mps: f32) -> f32
         ensures { λ r. ⌜ r ≡ falloffShare self «max_thrust_n» «thrust_share» «airspeed_mps» ⌝ }
     {

@@ -45,7 +45,7 @@ slotsOutside low high xs = firstFail (slotInside low high xs) 0 8
 unfoldable pub attitudeOutside : Quaternion → ℕ
 attitudeOutside q = cond (inside (rounded 9 10) (rounded 11 10) (quatNorm q)) 0 1
 
--- a line for each part, in the state's own order, after as many tests as stand before it: 3 of position, 3 of velocity, the
+-- a line for each part, as they stand in a state, after as many tests as stand before it: 3 of position, 3 of velocity, the
 -- attitude, 3 of rates, 8 motors, 8 servos
 unfoldable pub outsideOf : Flight → ℕ
 outsideOf f =
@@ -58,6 +58,6 @@ outsideOf f =
     ∷ after 18 (slotsOutside minusOne one (f .servos))
     ∷ [])
 
--- an accepted state: 7 does not hold of it
+-- an accepted state
 unfoldable pub isInside : Flight → Bool
 isInside f = eqb (outsideOf f) 0

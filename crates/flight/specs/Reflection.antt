@@ -1,6 +1,5 @@
--- The reflection of a state and of a tick (01, "Reflection negates"): in a state, that of its body (position and velocity east,
--- i, k, p, r); in a tick, wind east; all else stays. And what it is for one state or tick to be the other's reflection as numbers.
--- Definitions only.
+-- The reflection of a state and of a tick (01, "Reflection negates"): a state's body is reflected, a tick's wind turns in east,
+-- all else stays. And what it is for one state or tick to be the other's reflection as numbers. Definitions only.
 use mathlib.Core.Bool.{false}
 use mathlib.Core.Path.{_≡_}
 use Rattle.body.specs.Reflection.{BodyRel, reflectBody}
@@ -19,7 +18,7 @@ reflectTick t = record {
   servos = t .servos;
 }
 
--- number for number, two zeros counting as equal; the running values are even the same data
+-- the same, compared as numbers; the running values are even the same data
 pub record FlightRel (f f' : Flight) : Type 0 where
   pub body : BodyRel (f .body) (f' .body)
   pub motors : f' .motors ≡ f .motors

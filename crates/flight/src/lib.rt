@@ -1,4 +1,4 @@
-// The flight state, one plain record of floats, and what a tick is given.
+// The flight state, body and running values in one record, and what a tick is given.
 ghost use mathlib.Core.Path.{_≡_};
 ghost use Prim.Native.Nat.{_≤_};
 ghost use Rattle.ordered.specs.Contracts.{allPass};
@@ -50,8 +50,7 @@ impl Flight {
         }
     }
 
-    // Which test of the envelope the state breaks first, counted from 1 in the state's own order, the attitude's four as one;
-    // 0 where it is inside.
+    // The first test of the envelope that fails, by its number (01, "Envelope"); 0 where the state is inside.
     pub fn outside(self) -> u32
         ensures { λ r. ⌜ r ≡ Envelope.outsideOf self ⌝ }
     {

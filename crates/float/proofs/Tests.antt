@@ -1,13 +1,18 @@
--- Many tests at once, computed: a list of them, and one at every number below a bound. Assumes nothing.
+-- The side that a test takes; and many tests at once, computed: a list of them, and one at every number below a bound. Assumes nothing.
 use Prim.Native.Nat.{_<_, suc, zero, ℕ}
 use lib.Dec.{T}
 use lib.Ieee.Fits.{and-l, and-r}
-use mathlib.Core.Bool.{Bool, _&&_, true}
+use mathlib.Core.Bool.{Bool, _&&_, cond, false, true}
 use mathlib.Core.List.{List, [], _∷_}
 use mathlib.Core.Logic.{inl, inr}
 use mathlib.Core.Path.{subst, sym}
 use native.Mathlib.Nat.{eq-or-lt-of-le, le-of-suc-le-suc}
 use native.Mathlib.Omega.{arith}
+
+-- ---- what holds of both sides of a test holds of the one it takes
+pub either : {X : Type 0} (P : X → Type 0) (t : Bool) {x y : X} → P x → P y → P (cond t x y)
+either P true p q = p
+either P false p q = q
 
 -- ---- many tests at once
 abbrev pub allb : List Bool → Bool

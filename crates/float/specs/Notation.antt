@@ -52,7 +52,7 @@ sizeOf (inf s) = inf false
 sizeOf (fin s zero e) = nought
 sizeOf (fin s (suc m) e) = fin false (suc m) e
 
--- max(a, 0): a if a > 0, else +0, also for a NaN
+-- max(a, 0): +0 unless a > 0
 unfoldable pub atLeastZero : Float → Float
 atLeastZero a = cond (lt nought a) a nought
 

@@ -1,4 +1,5 @@
--- Numbers compared as results are (01: "zeros alike, NaNs alike"), and their reflections. Definitions only.
+-- Numbers compared as results are, 0 and -0 as one and all NaNs as one (01, "Numbers the Rust takes from elsewhere"), and their
+-- reflections. Definitions only.
 use Prim.Native.Nat.{suc, zero}
 use lib.Ieee.{Float, fin, inf, nan, neg}
 use mathlib.Core.Bool.{Bool, false, true}

@@ -4,7 +4,7 @@ use mathlib.Core.Bool.{cond}
 use Rattle.float.specs.Notation.{_⊕_, _⊖_, _⊗_, _⊘_, clamp, one, rounded}
 use Rattle.libm.specs.Exp.{expOf}
 
--- the fraction of the gap closed in a step of h seconds: 1 - e^(-h / tau)
+-- 1 - e^(-h / tau)
 unfoldable pub factorOf : Float → Float → Float
 factorOf h tau = one ⊖ expOf (neg h ⊘ tau)
 

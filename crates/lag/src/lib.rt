@@ -1,23 +1,22 @@
-// First-order lag, shared by the motors and servos.
+// 01, module 1: how running values follow their commands.
 ghost use mathlib.Core.Path.{_≡_};
 ghost use Rattle.lag.specs.Lag as Lag;
 
-// The step factor of a first-order lag with the time constant `time_constant_s` over a step of `h` seconds:
-// the fraction of the gap closed in the step.
+// How much of the way to its target a value goes in `h` seconds.
 pub fn factor(h: f32, time_constant_s: f32) -> f32
     ensures { λ r. ⌜ r ≡ Lag.factorOf h «time_constant_s» ⌝ }
 {
     1.0 - libm::expf(-h / time_constant_s)
 }
 
-// `value` moved toward `target` by `alpha` of the gap.
+// From `value` the part `alpha` of the way to `target`.
 pub fn approach(value: f32, target: f32, alpha: f32) -> f32
     ensures { λ r. ⌜ r ≡ Lag.approachOf value target alpha ⌝ }
 {
     value + (target - value) * alpha
 }
 
-// A command saturated to low..high; `neutral` for a NaN.
+// The target: the command held within low..high, or `neutral` where it is NaN.
 fn saturated(command: f32, low: f32, high: f32, neutral: f32) -> f32
     ensures { λ r. ⌜ r ≡ Lag.saturated low high neutral command ⌝ }
 {
@@ -27,7 +26,7 @@ fn saturated(command: f32, low: f32, high: f32, neutral: f32) -> f32
     float::clamp(command, low, high)
 }
 
-// `value` moved toward `command` saturated to low..high, by `alpha` of the gap; a NaN command moves it toward `neutral`.
+// The approach to that target.
 pub fn approach_saturated(
     value: f32,
     command: f32,

@@ -1,3 +1,3 @@
--- Laws of a lent list of mixing rows.
+-- Laws of the lent rows.
 pub mod Walk
 pub mod Forms

@@ -1,2 +1,2 @@
--- A lent list of mixing rows. Definitions only.
+-- The lent rows. Definitions only.
 pub mod Mixing

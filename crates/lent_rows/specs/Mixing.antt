@@ -1,5 +1,5 @@
--- A lent list of mixing rows read by slot (01, "Which places take which form": "slice of row structs walked once to fill torques
--- and weights, beside the array form"). Definitions only.
+-- Torques and weights filled from a lent slice of rows in one walk (01, "Which places take which form"); the array form stays beside
+-- it. Definitions only.
 use lib.Ieee.{Float}
 use lib.ListN.{replicate, take}
 use mathlib.Core.List.{List, [], _∷_}
@@ -21,7 +21,7 @@ startOf l tau = record { motors = undriven l tau; factors = noFactors }
 unfoldable pub putOf : Mix → MixRow → Mix
 putOf m row = record { motors = motorPut (m .motors) row; factors = servoPut (m .factors) row }
 
--- the rows of a list in their order: a later row of the same slot wins (01, module 2)
+-- the rows of a list in their order: of several for one slot the last counts
 unfoldable pub mixFrom : Mix → List MixRow → Mix
 mixFrom m [] = m
 mixFrom m (row ∷ rows) = mixFrom (putOf m row) rows

@@ -1,5 +1,5 @@
-// A lent list of mixing rows, read by slot: a slice of rows, walked once, fills the motors' torques and the servos' factors. It
-// stands beside the array form of `mixers::Rows`.
+// The lent rows (01, "Which places take which form"): one walk over a slice fills the motors' torques and the servos' factors.
+// The array form, `mixers::Rows`, stays.
 ghost use mathlib.Core.Path.{_≡_};
 ghost use Prim.Native.Nat.{_≤_};
 ghost use lib.ListN.{take};
@@ -34,7 +34,7 @@ impl Mix {
         Mix { motors, factors }
     }
 
-    // One row: a motor's torque or a servo's factors. A later row of a slot wins.
+    // One row: a motor's torque or a servo's factors, in place of what an earlier row set.
     pub fn put(self, row: MixRow) -> Self
         ensures { λ r. ⌜ r ≡ putOf self row ⌝ }
     {

@@ -1,4 +1,4 @@
-// The tick over the caller's own flight record, lent by `&mut`: one thin function over the by-value tick.
+// The lent tick: `wing::tick`, by value, on a flight record that the caller lends by `&mut`.
 ghost use mathlib.Core.Path.{_≡_};
 ghost use Rattle.wing.specs.Tick.{tickOf};
 use airframe::Airframe;

@@ -6,12 +6,13 @@ use lib.Ieee.{Float, add, binary32, eq, fin, le, lt, mul, neg, ofInt, round, sub
 use lib.Ieee.Scale.{finite}
 use lib.IntN.{negsuc, pos, ℤ}
 use lib.Signed.{leZ}
-use mathlib.Core.Bool.{Bool, cond, false, true}
+use mathlib.Core.Bool.{cond, false, true}
 use mathlib.Core.Path.{_≡_, refl, subst, sym}
 use native.Mathlib.Omega.{arith}
 use Rattle.float.proofs.Interval.{scale-in, sub-in, within-finite, within-wider}
 use Rattle.float.proofs.Order.{le-lt, le-trans-float, lt-le}
 use Rattle.float.proofs.Rounding.{add-mono-l}
+use Rattle.float.proofs.Tests.{either}
 use Rattle.float.proofs.Truncation.{toSigned-mono, whole-is}
 use Rattle.float.specs.Interval.{Within}
 use Rattle.float.specs.Notation.{half, nought}
@@ -50,12 +51,8 @@ cut-down-in x w =
 abbrev aside : Float → Float
 aside x = cond (le nought x) (add binary32 (mul binary32 x quarterTurn) half) (sub binary32 (mul binary32 x quarterTurn) half)
 
-either : (P : Float → Type 0) (b : Bool) (u v : Float) → P u → P v → P (cond b u v)
-either P true u v p q = p
-either P false u v p q = q
-
 aside-in : (x : Float) → Within nearest farthest x → Within cut-low cut-high (aside x)
-aside-in x w = either (Within cut-low cut-high) (le nought x) (add binary32 (mul binary32 x quarterTurn) half) (sub binary32 (mul binary32 x quarterTurn) half) (cut-up-in x w) (cut-down-in x w)
+aside-in x w = either (Within cut-low cut-high) (le nought x) (cut-up-in x w) (cut-down-in x w)
 
 -- a whole number from -3 to 3
 record Few (q : ℤ) : Type 0 where

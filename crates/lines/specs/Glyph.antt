@@ -1,4 +1,4 @@
--- A hex digit as a line shows it. Definitions only.
+-- A digit as a line shows it. Definitions only.
 use Prim.Native.Nat.{_+_, ℕ}
 use lib.Dec.{ltb}
 use mathlib.Core.Bool.{cond}

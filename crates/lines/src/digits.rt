@@ -3,15 +3,20 @@ ghost use mathlib.Core.Path.{_≡_};
 ghost use Prim.Native.Nat.{_+_, _<_, _≤_};
 ghost use lib.Ieee as Ieee;
 ghost use lib.Ieee.{binary32};
+ghost use lib.ListN.{length};
 ghost use Rattle.float.specs.Same.{num};
 ghost use Rattle.lines.specs.Glyph.{glyphOf};
+ghost use Rattle.lines.specs.Text.{decimalText, digitsOf, placed, placesOf, wordText};
+use crate::text;
 
-pub fn wide(n: u32) -> u64 {
+pub fn wide(n: u32) -> u64
+    ensures { λ r. ⌜ r ≡ n ⌝ }
+{
     n as u64
 }
 
 // The bits of x as a line shows them: any zero 0, any NaN 7FC00000.
-pub fn shown(x: f32) -> u32
+fn shown(x: f32) -> u32
     ensures { λ r. ⌜ r ≡ Ieee.toBits binary32 (num x) ⌝ }
 {
     if x == 0.0 {
@@ -20,8 +25,8 @@ pub fn shown(x: f32) -> u32
     float::to_bits(x)
 }
 
-// The hex digit d, upper case.
-fn glyph(d: u32) -> u8
+// The digit d of a base up to 16, upper case.
+fn glyph(d: u64) -> u8
     requires { ⌜ d < 16 ⌝ }
     ensures { λ r. ⌜ r ≡ glyphOf d ⌝ }
 {
@@ -31,39 +36,39 @@ fn glyph(d: u32) -> u8
     d as u8 + 55
 }
 
-// Puts the byte b at `at`.
-pub fn put_byte(out: &mut [u8; 65536], at: usize, b: u8) -> usize
-    requires { ⌜ at < 65536 ⌝ }
-    ensures { λ r. ⌜ r ≡ at + 1 ⌝ }
+// Puts the last k digits of n in the base at `at`.
+fn put_digits(out: &mut [u8; 65536], at: usize, n: u64, base: u64, k: usize)
+    requires { ⌜ 0 < base ⌝ ∗ ⌜ base ≤ 16 ⌝ ∗ ⌜ at + k ≤ 65536 ⌝ }
+    ensures { λ _. ⌜ now (out .exit) ≡ placed (now (out .entry)) at (digitsOf base k n) ⌝ }
 {
-    out[at] = b;
-    at + 1
+    let mut rest = n;
+    let mut i = k;
+    while i > 0 {
+        i -= 1;
+        out[at + i] = glyph(rest % base);
+        rest = rest / base;
+    }
 }
 
 // Puts a space and the eight hex digits of x at `at`.
 pub fn put_word(out: &mut [u8; 65536], at: usize, x: f32) -> usize
     requires { ⌜ at + 9 ≤ 65536 ⌝ }
-    ensures { λ r. ⌜ r ≡ at + 9 ⌝ }
+    ensures page { λ _. ⌜ now (out .exit) ≡ placed (now (out .entry)) at (wordText x) ⌝ }
+    ensures end { λ r. ⌜ r ≡ at + length (wordText x) ⌝ ∗ ⌜ r ≤ at + 9 ⌝ }
 {
-    out[at] = b' ';
-    let mut rest = shown(x);
-    let mut i = 8;
-    while i > 0 {
-        out[at + i] = glyph(rest % 16);
-        rest = rest / 16;
-        i -= 1;
-    }
+    let digits = text::put_byte(out, at, b' ');
+    put_digits(out, digits, wide(shown(x)), 16, 8);
     at + 9
 }
 
 // How many decimal digits n has.
 fn places(n: u64) -> usize
-    ensures { λ r. ⌜ r ≤ 20 ⌝ }
+    ensures { λ r. ⌜ r ≡ placesOf 19 n ⌝ ∗ ⌜ r ≤ 20 ⌝ }
 {
-    let mut rest = n / 10;
+    let mut rest = n;
     let mut k = 1;
     while k < 20 {
-        if rest == 0 {
+        if rest < 10 {
             return k;
         }
         rest = rest / 10;
@@ -72,26 +77,13 @@ fn places(n: u64) -> usize
     20
 }
 
-// The decimal digit d.
-fn decimal_glyph(d: u64) -> u8
-    requires { ⌜ d < 10 ⌝ }
-    ensures { λ r. ⌜ r ≡ d + 48 ⌝ }
-{
-    d as u8 + 48
-}
-
 // Puts n in decimal at `at`.
 pub fn put_decimal(out: &mut [u8; 65536], at: usize, n: u64) -> usize
     requires { ⌜ at + 20 ≤ 65536 ⌝ }
-    ensures { λ r. ⌜ r ≤ at + 20 ⌝ }
+    ensures page { λ _. ⌜ now (out .exit) ≡ placed (now (out .entry)) at (decimalText n) ⌝ }
+    ensures end { λ r. ⌜ r ≡ at + length (decimalText n) ⌝ ∗ ⌜ r ≤ at + 20 ⌝ }
 {
     let k = places(n);
-    let mut rest = n;
-    let mut i = k;
-    while i > 0 {
-        i -= 1;
-        out[at + i] = decimal_glyph(rest % 10);
-        rest = rest / 10;
-    }
+    put_digits(out, at, n, 10, k);
     at + k
 }

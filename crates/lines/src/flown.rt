@@ -1,22 +1,25 @@
 // Ticks flown one after the other, each with its line on the page.
-ghost use Prim.Native.Nat.{_≤_};
+ghost use mathlib.Core.Path.{_≡_};
+ghost use Prim.Native.Nat.{_+_, _*_, _-_, _≤_};
 ghost use lib.ListN.{length};
+ghost use Rattle.lines.specs.Leg.{legOver, oneMore, tickText};
+ghost use Rattle.lines.specs.Text.{placed};
+ghost use Rattle.wing.specs.Tick.{tickOf};
 use crate::line;
-use crate::page;
 use airframe::Airframe;
 use flight::Flight;
 use flight::Tick;
 
-// The state after the ticks flown, how many they were, and where the next line stands on the page.
+// The state after the ticks flown, how many they were, and where the lines on the page end.
 pub struct Flown {
     pub flight: Flight,
     pub index: u64,
     pub at: usize,
 }
 
-// Before the first tick, with nothing on the page.
+// Before the first tick.
 pub fn start(f: Flight) -> Flown
-    ensures { λ r. ⌜ r .at ≤ 65536 ⌝ }
+    ensures { λ r. ⌜ r .flight ≡ f ⌝ ∗ ⌜ r .index ≡ 0 ⌝ ∗ ⌜ r .at ≡ 0 ⌝ }
 {
     Flown {
         flight: f,
@@ -27,20 +30,22 @@ pub fn start(f: Flight) -> Flown
 
 // Flies one tick, and puts its line on the page.
 fn fly_one(a: Airframe, p: Flown, t: Tick, out: &mut [u8; 65536]) -> Flown
-    requires { ⌜ p .at ≤ 65536 ⌝ }
-    ensures { λ r. ⌜ r .at ≤ 65536 ⌝ }
+    requires { ⌜ p .at + 160 ≤ 65536 ⌝ }
+    ensures { λ _. ⌜ now (out .exit) ≡ placed (now (out .entry)) (p .at) (tickText a (p .flight) (oneMore (p .index)) t) ⌝ }
+    ensures state { λ r. ⌜ r .flight ≡ tickOf a (p .flight) t .flight ⌝ ∗ ⌜ r .index ≡ oneMore (p .index) ⌝ }
+    ensures end { λ r. ⌜ r .at ≡ p .at + length (tickText a (p .flight) (oneMore (p .index)) t) ⌝ ∗ ⌜ r .at ≤ p .at + 160 ⌝ }
 {
     let done = wing::tick(a, p.flight, t);
     let report = done.report;
     let answer = report.answer;
     let flight = done.flight;
     let index = std::num::wrapping_add_u64(p.index, 1);
-    let room = page::with_room(out, p.at);
-    let at = line::put_line(out, room, index, answer, flight);
+    let at = line::put_line(out, p.at, index, answer, flight);
     Flown { flight, index, at }
 }
 
 // Flies the whole ticks among the bytes from `from` to `to` of `ticks`: those of fly's input as it comes, or of a stored flight.
+// Their lines stand at the page's start: a tick has 80 bytes, its line at most 160, and one line more has room behind them.
 pub fn fly_ticks(
     a: Airframe,
     p: Flown,
@@ -49,11 +54,15 @@ pub fn fly_ticks(
     to: usize,
     out: &mut [u8; 65536],
 ) -> Flown
-    requires { ⌜ from ≤ to ⌝ ∗ ⌜ to ≤ length (now ticks) ⌝ ∗ ⌜ p .at ≤ 65536 ⌝ }
-    ensures { λ r. ⌜ r .at ≤ 65536 ⌝ }
+    requires { ⌜ from ≤ to ⌝ ∗ ⌜ to ≤ length (now ticks) ⌝ ∗ ⌜ 2 * (to - from) ≤ 65376 ⌝ }
+    ensures page { λ _. ⌜ now (out .exit) ≡ placed (now (out .entry)) 0 (legOver a p (now (ticks .entry)) from to .text) ⌝ }
+    ensures flight { λ r. ⌜ r .flight ≡ legOver a p (now (ticks .entry)) from to .flight ⌝ }
+    ensures index { λ r. ⌜ r .index ≡ legOver a p (now (ticks .entry)) from to .index ⌝ }
+    ensures end { λ r. ⌜ r .at ≡ length (legOver a p (now (ticks .entry)) from to .text) ⌝ ∗ ⌜ r .at ≤ 65376 ⌝ }
 {
     let count = (to - from) / state_block::TICK_BYTES;
     let mut flown = p;
+    flown.at = 0;
     let mut i = 0usize;
     while i < count {
         let t = state_block::read_tick(ticks, from + state_block::TICK_BYTES * i);

@@ -1,22 +1,25 @@
-// What fly and mirror read before the ticks, the ticks flown, and the lines that the programs print.
+// What fly and mirror read, the ticks flown, the lines that the programs print, and what they say where something goes wrong.
 mod digits;
 mod flown;
+mod input;
 mod line;
 mod opening;
 mod page;
+mod text;
+mod trouble;
 
-pub use digits::shown;
+pub use digits::put_decimal;
 pub use flown::Flown;
 pub use flown::fly_ticks;
 pub use flown::start;
+pub use input::Input;
+pub use input::open_input;
 pub use line::put_line;
 pub use line::put_mirrored_line;
-pub use opening::Opened;
 pub use opening::TICKS_BYTES;
 pub use opening::open;
 pub use opening::read_ticks;
-pub use page::ended;
 pub use page::put_end;
 pub use page::put_refusal;
-pub use page::refusal;
-pub use page::with_room;
+pub use page::turn;
+pub use text::put_text;

@@ -1,7 +1,10 @@
 // A tick's line: index, answer, and the 13 numbers of the state's body.
 ghost use mathlib.Core.Path.{_≡_};
 ghost use Prim.Native.Nat.{_+_, _≤_};
+ghost use lib.ListN.{length};
+ghost use Rattle.lines.specs.Text.{attitudeText, bodyText, lineText, mirroredText, placed, restText, vecText};
 use crate::digits;
+use crate::text;
 use answers::Answer;
 use body::Body;
 use flight::Flight;
@@ -10,7 +13,8 @@ use vector::Vec3;
 
 fn put_vec(out: &mut [u8; 65536], at: usize, v: Vec3) -> usize
     requires { ⌜ at + 27 ≤ 65536 ⌝ }
-    ensures { λ r. ⌜ r ≡ at + 27 ⌝ }
+    ensures page { λ _. ⌜ now (out .exit) ≡ placed (now (out .entry)) at (vecText v) ⌝ }
+    ensures end { λ r. ⌜ r ≡ at + length (vecText v) ⌝ ∗ ⌜ r ≤ at + 27 ⌝ }
 {
     let y = digits::put_word(out, at, v.x);
     let z = digits::put_word(out, y, v.y);
@@ -19,7 +23,8 @@ fn put_vec(out: &mut [u8; 65536], at: usize, v: Vec3) -> usize
 
 fn put_attitude(out: &mut [u8; 65536], at: usize, q: Quaternion) -> usize
     requires { ⌜ at + 36 ≤ 65536 ⌝ }
-    ensures { λ r. ⌜ r ≡ at + 36 ⌝ }
+    ensures page { λ _. ⌜ now (out .exit) ≡ placed (now (out .entry)) at (attitudeText q) ⌝ }
+    ensures end { λ r. ⌜ r ≡ at + length (attitudeText q) ⌝ ∗ ⌜ r ≤ at + 36 ⌝ }
 {
     let i = digits::put_word(out, at, q.w);
     let j = digits::put_word(out, i, q.i);
@@ -30,7 +35,8 @@ fn put_attitude(out: &mut [u8; 65536], at: usize, q: Quaternion) -> usize
 // Puts the body's position, velocity, attitude and rates at `at`.
 fn put_body(out: &mut [u8; 65536], at: usize, b: Body) -> usize
     requires { ⌜ at + 117 ≤ 65536 ⌝ }
-    ensures { λ r. ⌜ r ≡ at + 117 ⌝ }
+    ensures page { λ _. ⌜ now (out .exit) ≡ placed (now (out .entry)) at (bodyText b) ⌝ }
+    ensures end { λ r. ⌜ r ≡ at + length (bodyText b) ⌝ ∗ ⌜ r ≤ at + 117 ⌝ }
 {
     let velocity = put_vec(out, at, b.position_ned_m);
     let attitude = put_vec(out, velocity, b.velocity_ned_mps);
@@ -41,18 +47,20 @@ fn put_body(out: &mut [u8; 65536], at: usize, b: Body) -> usize
 // Puts what follows a line's index at `at`.
 fn put_rest(out: &mut [u8; 65536], at: usize, answer: Answer, f: Flight) -> usize
     requires { ⌜ at + 139 ≤ 65536 ⌝ }
-    ensures { λ r. ⌜ r ≤ at + 139 ⌝ }
+    ensures page { λ _. ⌜ now (out .exit) ≡ placed (now (out .entry)) at (restText answer f) ⌝ }
+    ensures end { λ r. ⌜ r ≡ at + length (restText answer f) ⌝ ∗ ⌜ r ≤ at + 139 ⌝ }
 {
-    let number = digits::put_byte(out, at, b' ');
+    let number = text::put_byte(out, at, b' ');
     let body = digits::put_decimal(out, number, digits::wide(answer.number()));
     let end = put_body(out, body, f.body);
-    digits::put_byte(out, end, b'\n')
+    text::put_byte(out, end, b'\n')
 }
 
 // Puts the line of the tick `index`, its answer and the state handed back, at `at`.
 pub fn put_line(out: &mut [u8; 65536], at: usize, index: u64, answer: Answer, f: Flight) -> usize
     requires { ⌜ at + 160 ≤ 65536 ⌝ }
-    ensures { λ r. ⌜ r ≤ at + 160 ⌝ }
+    ensures page { λ _. ⌜ now (out .exit) ≡ placed (now (out .entry)) at (lineText index answer f) ⌝ }
+    ensures end { λ r. ⌜ r ≡ at + length (lineText index answer f) ⌝ ∗ ⌜ r ≤ at + 160 ⌝ }
 {
     let rest = digits::put_decimal(out, at, index);
     put_rest(out, rest, answer, f)
@@ -67,9 +75,10 @@ pub fn put_mirrored_line(
     f: Flight,
 ) -> usize
     requires { ⌜ at + 160 ≤ 65536 ⌝ }
-    ensures { λ r. ⌜ r ≤ at + 160 ⌝ }
+    ensures page { λ _. ⌜ now (out .exit) ≡ placed (now (out .entry)) at (mirroredText index answer f) ⌝ }
+    ensures end { λ r. ⌜ r ≡ at + length (mirroredText index answer f) ⌝ ∗ ⌜ r ≤ at + 160 ⌝ }
 {
     let mark = digits::put_decimal(out, at, index);
-    let rest = digits::put_byte(out, mark, b'\'');
+    let rest = text::put_byte(out, mark, b'\'');
     put_rest(out, rest, answer, f)
 }

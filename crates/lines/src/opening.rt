@@ -1,29 +1,25 @@
-// What stands before the ticks on standard input, the airframe and the state; and the ticks, a buffer at a time.
-ghost use Prim.Native.Nat.{_*_, _+_, _≤_};
+// What stands before the ticks of the input, the airframe and the state; and the ticks, a buffer at a time.
+ghost use Prim.Native.Nat.{_*_, _≤_};
 ghost use Rattle.airframe_block.specs.Block.{headerBytes, mostBytes};
 ghost use Rattle.state_block.specs.Layout.{tickBytes};
+use crate::input;
+use crate::input::Filled;
+use crate::input::Input;
+use crate::page;
 use airframe::Airframe;
 use airframe_block::AirframeRead;
 use airframe_block::HEADER_BYTES;
 use airframe_block::MOST_BYTES;
 use answers::Answer;
 use flight::Flight;
-use libc::STDIN_FILENO;
 use state_block::StateRead;
 
-// What the start of the input gives: the reply, and where it is 0 the airframe and the state.
+// What the start of the input gives: the reply, where it is 0 the airframe and the state, and whether a read failed.
 pub struct Opened {
     pub answer: Answer,
     pub airframe: Airframe,
     pub flight: Flight,
-}
-
-// Reads on into s from `from` up to `to`, and answers where the bytes read end.
-fn fill(s: &mut [u8], from: usize, to: usize) -> usize
-    requires { do ⌜ from ≤ to ⌝ ∗ ⌜ to ≤ (← ⟦s.len()⟧) ⌝ }
-    ensures { λ r. ⌜ from ≤ r ⌝ ∗ ⌜ r ≤ to ⌝ }
-{
-    from + io::read_full(STDIN_FILENO, &mut s[from..to])
+    pub failed: bool,
 }
 
 // The length that the two bytes of a good header announce.
@@ -40,26 +36,38 @@ fn airframe_in(s: &[u8], end: usize) -> AirframeRead
     airframe_block::read_airframe(&s[..end])
 }
 
+// What the airframe block gives, and whether a read of it failed.
+struct AirframeOpened {
+    read: AirframeRead,
+    failed: bool,
+}
+
 // The airframe of the header in the first two bytes of s, read into the rest of s.
-fn read_announced(s: &mut [u8; MOST_BYTES]) -> AirframeRead {
+fn read_announced(fd: i32, s: &mut [u8; MOST_BYTES]) -> AirframeOpened {
     let to = announced(s[0], s[1]);
-    let end = fill(s, HEADER_BYTES, to);
-    airframe_in(s, end)
+    let got = input::fill(fd, s, HEADER_BYTES, to);
+    let read = airframe_in(s, got.end);
+    AirframeOpened {
+        read,
+        failed: got.failed,
+    }
 }
 
 // The airframe block: its header alone is wrong in length, or wrong however many bytes follow.
-fn open_airframe() -> AirframeRead {
+fn open_airframe(fd: i32) -> AirframeOpened {
     let mut s = [0u8; MOST_BYTES];
-    let n = fill(&mut s, 0, HEADER_BYTES);
-    let header = airframe_in(&s, n);
-    let answer = header.answer;
-    if n < HEADER_BYTES {
-        return header;
+    let got = input::fill(fd, &mut s, 0, HEADER_BYTES);
+    let read = airframe_in(&s, got.end);
+    let answer = read.answer;
+    if got.end == HEADER_BYTES {
+        if answer.number() == 1 {
+            return read_announced(fd, &mut s);
+        }
     }
-    if answer.number() != 1 {
-        return header;
+    AirframeOpened {
+        read,
+        failed: got.failed,
     }
-    read_announced(&mut s)
 }
 
 // The state block in the first `end` bytes of s.
@@ -69,41 +77,58 @@ fn state_in(s: &[u8], end: usize) -> StateRead
     state_block::read_state(&s[..end])
 }
 
-fn open_state() -> StateRead {
+// The state, behind the airframe.
+fn open_state(fd: i32, airframe: Airframe) -> Opened {
     let mut s = [0u8; state_block::STATE_BYTES];
-    let n = fill(&mut s, 0, state_block::STATE_BYTES);
-    state_in(&s, n)
-}
-
-// The airframe and the state.
-pub fn open() -> Opened {
-    let a = open_airframe();
-    let answer = a.answer;
-    let airframe = a.airframe;
-    if answer.number() != 0 {
-        let flight = Flight::zero();
-        return Opened {
-            answer,
-            airframe,
-            flight,
-        };
-    }
-    let s = open_state();
-    let answer = s.answer;
-    let flight = s.flight;
+    let got = input::fill(fd, &mut s, 0, state_block::STATE_BYTES);
+    let read = state_in(&s, got.end);
+    let answer = read.answer;
+    let flight = read.flight;
     Opened {
         answer,
         airframe,
         flight,
+        failed: got.failed,
     }
 }
 
-// How many bytes of ticks are read at a time.
-pub const TICKS_BYTES: usize = 800 * state_block::TICK_BYTES;
+// The airframe and the state.
+fn read_blocks(fd: i32) -> Opened {
+    let opened = open_airframe(fd);
+    let read = opened.read;
+    let answer = read.answer;
+    let airframe = read.airframe;
+    if answer.number() == 0 {
+        return open_state(fd, airframe);
+    }
+    Opened {
+        answer,
+        airframe,
+        flight: Flight::zero(),
+        failed: opened.failed,
+    }
+}
 
-// Reads the next 800 ticks, or what is left, and answers how many bytes they are.
-pub fn read_ticks(buf: &mut [u8; 65536]) -> usize
-    ensures { λ r. ⌜ r ≤ 800 * tickBytes ⌝ }
+// The airframe and the state of the input; where they are refused, the refusal is written.
+pub fn open(program: &[u8], name: &[u8; 65536], input: Input) -> Opened
+    requires { ⌜ input .named ≤ 65536 ⌝ }
 {
-    fill(buf, 0, TICKS_BYTES)
+    let opened = read_blocks(input.fd);
+    let answer = opened.answer;
+    if answer.number() != 0 {
+        let mut out = io::large_buffer();
+        let end = page::put_refusal(&mut out, 0, answer);
+        page::turn(program, name, input, opened.failed, &out, end);
+    }
+    opened
+}
+
+// How many bytes of ticks are read at a time: their lines, and those of their reflections, go on one page.
+pub const TICKS_BYTES: usize = 200 * state_block::TICK_BYTES;
+
+// Reads the next 200 ticks, or what is left.
+pub fn read_ticks(fd: i32, buf: &mut [u8; 65536]) -> Filled
+    ensures { λ r. ⌜ r .end ≤ 200 * tickBytes ⌝ }
+{
+    input::fill(fd, buf, 0, TICKS_BYTES)
 }

@@ -1,71 +1,67 @@
 // Standard output through a page of lines, and the lines of refused reads.
+ghost use mathlib.Core.Path.{_≡_};
 ghost use Prim.Native.Nat.{_+_, _≤_};
+ghost use lib.ListN.{length};
+ghost use Rattle.lines.specs.Text.{endText, placed, refusalText};
 use crate::digits;
+use crate::input::Input;
+use crate::text;
+use crate::trouble;
 use answers::Answer;
 use libc::STDOUT_FILENO;
 
-// Writes the first `at` bytes of `out`.
-fn flush(out: &[u8], at: usize)
+// Writes the first `at` bytes of `out`, and answers whether all were taken.
+fn write(out: &[u8], at: usize) -> bool
     requires { do ⌜ at ≤ (← ⟦out.len()⟧) ⌝ }
 {
-    io::write_all(STDOUT_FILENO, &out[..at]);
+    io::write_all(STDOUT_FILENO, &out[..at])
 }
 
-// Writes the page's first `at` bytes.
-fn flush_page(out: &[u8; 65536], at: usize)
-    requires { ⌜ at ≤ 65536 ⌝ }
+// Writes the page up to `at`, and answers whether all went well. If not, it says what went wrong: with writing the page or, where
+// `failed` says so, with reading what it was made of.
+pub fn turn(
+    program: &[u8],
+    name: &[u8; 65536],
+    input: Input,
+    failed: bool,
+    out: &[u8; 65536],
+    at: usize,
+) -> bool
+    requires { ⌜ input .named ≤ 65536 ⌝ ∗ ⌜ at ≤ 65536 ⌝ }
 {
-    flush(out, at);
-}
-
-// Where the next line may stand on the page: a page with no room for two more is written first.
-pub fn with_room(out: &[u8; 65536], at: usize) -> usize
-    requires { ⌜ at ≤ 65536 ⌝ }
-    ensures { λ r. ⌜ r + 320 ≤ 65536 ⌝ }
-{
-    if at <= 65216 {
-        return at;
+    if !write(out, at) {
+        trouble::unwritten(program);
+        return false;
     }
-    flush_page(out, at);
-    0
+    if failed {
+        trouble::unread(program, name, input.named);
+        return false;
+    }
+    true
 }
 
 // Puts the line of a refused read at `at`: 0, its answer and its place.
 pub fn put_refusal(out: &mut [u8; 65536], at: usize, answer: Answer) -> usize
     requires { ⌜ at + 160 ≤ 65536 ⌝ }
-    ensures { λ r. ⌜ r ≤ at + 160 ⌝ }
+    ensures page { λ _. ⌜ now (out .exit) ≡ placed (now (out .entry)) at (refusalText answer) ⌝ }
+    ensures end { λ r. ⌜ r ≡ at + length (refusalText answer) ⌝ ∗ ⌜ r ≤ at + 160 ⌝ }
 {
-    let behind_0 = digits::put_byte(out, at, b'0');
-    let number = digits::put_byte(out, behind_0, b' ');
+    let behind_0 = text::put_byte(out, at, b'0');
+    let number = text::put_byte(out, behind_0, b' ');
     let behind_number = digits::put_decimal(out, number, digits::wide(answer.number()));
-    let place = digits::put_byte(out, behind_number, b' ');
+    let place = text::put_byte(out, behind_number, b' ');
     let end = digits::put_decimal(out, place, digits::wide(answer.place()));
-    digits::put_byte(out, end, b'\n')
+    text::put_byte(out, end, b'\n')
 }
 
-// Writes the line of a refused read.
-pub fn refusal(answer: Answer) {
-    let mut out = io::large_buffer();
-    let end = put_refusal(&mut out, 0, answer);
-    flush_page(&out, end);
-}
-
-// Puts a refusal on the page where the last `n` bytes read were not whole ticks, and answers where the page ends.
+// Puts a refusal at `at` where the last `n` bytes read were not whole ticks, and answers where the page ends.
 pub fn put_end(out: &mut [u8; 65536], at: usize, n: usize) -> usize
-    requires { ⌜ at ≤ 65536 ⌝ }
-    ensures { λ r. ⌜ r ≤ 65536 ⌝ }
+    requires { ⌜ at + 160 ≤ 65536 ⌝ }
+    ensures page { λ _. ⌜ now (out .exit) ≡ placed (now (out .entry)) at (endText n) ⌝ }
+    ensures end { λ r. ⌜ r ≡ at + length (endText n) ⌝ ∗ ⌜ r ≤ at + 160 ⌝ }
 {
     if n % state_block::TICK_BYTES == 0 {
         return at;
     }
-    let line = with_room(out, at);
-    put_refusal(out, line, Answer::WrongLength)
-}
-
-// Writes what the page still holds, and a refusal where the last `n` bytes read were not whole ticks.
-pub fn ended(out: &mut [u8; 65536], at: usize, n: usize)
-    requires { ⌜ at ≤ 65536 ⌝ }
-{
-    let end = put_end(out, at, n);
-    flush_page(out, end);
+    put_refusal(out, at, Answer::WrongLength)
 }

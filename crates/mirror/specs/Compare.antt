@@ -1,5 +1,5 @@
--- When the tick of a flight and that of its reflection mirror each other (demand 3; 01: "Results compare as numbers: zeros alike,
--- NaNs alike"). Definitions only.
+-- When the tick of a flight and that of its reflection mirror each other (demand 3). Numbers are compared as numbers: 0 and -0
+-- are one, all NaNs are one. Definitions only.
 use Prim.Native.Nat.{ℕ}
 use lib.Dec.{eqb}
 use lib.Ieee.{Float, eq, ne, neg}

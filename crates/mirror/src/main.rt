@@ -1,24 +1,32 @@
-// Flies the ticks of standard input from the airframe and the state before them, and beside them their reflection; prints both
-// lines of each tick, how many were accepted, and whether the tracks mirror.
+// Flies the ticks of a file or of standard input from the airframe and the state before them, and beside them their reflection;
+// prints both lines of each tick, how many were accepted, and whether the tracks mirror.
 mod compare;
 mod report;
 mod track;
+mod verdict;
 
+ghost use Prim.Native.Nat.{_≤_};
 use airframe::Airframe;
 use flight::Flight;
+use lines::Input;
 
-// Flies all ticks of standard input from f, and their reflection.
-fn fly(a: Airframe, f: Flight) {
+// Flies all ticks of the input from f, and their reflection.
+fn fly(a: Airframe, f: Flight, input: Input, name: &[u8; 65536])
+    requires { ⌜ input .named ≤ 65536 ⌝ }
+{
     let mut ticks = io::large_buffer();
     let mut out = io::large_buffer();
     let mut p = track::start(f);
     let mut turns = u64::MAX;
     while turns > 0 {
-        let n = lines::read_ticks(&mut ticks);
-        p = track::fly_some(a, p, &ticks, n, &mut out);
-        if n < lines::TICKS_BYTES {
-            lines::ended(&mut out, p.at, n);
-            report::summary(p);
+        let got = lines::read_ticks(input.fd, &mut ticks);
+        p = track::fly_some(a, p, &ticks, got.end, &mut out);
+        let end = report::put_end(&mut out, p, got.end);
+        let well = lines::turn(b"mirror", name, input, got.failed, &out, end);
+        if !well {
+            return;
+        }
+        if got.end < lines::TICKS_BYTES {
             return;
         }
         turns -= 1;
@@ -26,11 +34,14 @@ fn fly(a: Airframe, f: Flight) {
 }
 
 fn main() {
-    let o = lines::open();
-    let answer = o.answer;
-    if answer.number() != 0 {
-        lines::refusal(answer);
+    let mut name = io::large_buffer();
+    let input = lines::open_input(b"mirror", &mut name);
+    if input.fd < 0 {
         return;
     }
-    fly(o.airframe, o.flight);
+    let o = lines::open(b"mirror", &name, input);
+    let answer = o.answer;
+    if answer.number() == 0 {
+        fly(o.airframe, o.flight, input, &name);
+    }
 }

@@ -1,25 +1,76 @@
 // What is said at the end.
+ghost use Prim.Native.Nat.{_+_, _≤_};
+ghost use lib.ListN.{length};
 use crate::track::Track;
-use libc::STDOUT_FILENO;
+use crate::verdict;
+use crate::verdict::Verdict;
 
-fn say(text: &[u8]) {
-    io::write_all(STDOUT_FILENO, text);
+// Puts n and what was counted at `at`.
+fn put_count(out: &mut [u8; 65536], at: usize, n: u64, what: &[u8]) -> usize
+    requires { ⌜ at + 20 + length (now what) ≤ 65536 ⌝ }
+    ensures { λ r. ⌜ r ≤ at + 20 + length (now (what .entry)) ⌝ }
+{
+    let behind = lines::put_decimal(out, at, n);
+    lines::put_text(out, behind, what)
 }
 
-fn count(n: u64, what: &[u8]) {
-    io::print_decimal(STDOUT_FILENO, n);
-    say(what);
+// Puts how many ticks there were, and how many each flight accepted.
+fn put_counts(out: &mut [u8; 65536], at: usize, p: Track) -> usize
+    requires { ⌜ at + 200 ≤ 65536 ⌝ }
+    ensures { λ r. ⌜ r ≤ at + 200 ⌝ }
+{
+    let accepted = put_count(out, at, p.ticks, b" ticks, ");
+    let mirrored = put_count(out, accepted, p.accepted, b" accepted, ");
+    put_count(
+        out,
+        mirrored,
+        p.accepted_mirrored,
+        b" accepted in the reflection\n",
+    )
 }
 
-// How many ticks there were, how many each flight accepted, and whether the tracks mirror.
-pub fn summary(p: Track) {
-    count(p.ticks, b" ticks, ");
-    count(p.accepted, b" accepted, ");
-    count(p.accepted_mirrored, b" accepted in the reflection\n");
-    if p.differs == 0 {
-        say(b"the tracks mirror\n");
-        return;
+// Puts the verdict in words.
+fn put_verdict(out: &mut [u8; 65536], at: usize, v: Verdict) -> usize
+    requires { ⌜ at + 200 ≤ 65536 ⌝ }
+    ensures { λ r. ⌜ r ≤ at + 200 ⌝ }
+{
+    match v {
+        Verdict::NoneAccepted => lines::put_text(
+            out,
+            at,
+            b"no tick was accepted: nothing to compare",
+        ),
+        Verdict::Mirror => lines::put_text(out, at, b"the tracks mirror"),
+        Verdict::MirrorSoFar => lines::put_text(out, at, b"the whole ticks mirror"),
+        Verdict::DifferFrom(tick) => {
+            let number = lines::put_text(out, at, b"the tracks do not mirror from tick ");
+            put_count(out, number, tick, b" on")
+        }
     }
-    say(b"the tracks do not mirror from tick ");
-    count(p.differs, b" on\n");
+}
+
+// Puts the counts and the verdict; `cut` says whether the last tick is cut short.
+fn put_summary(out: &mut [u8; 65536], at: usize, p: Track, cut: bool) -> usize
+    requires { ⌜ at + 500 ≤ 65536 ⌝ }
+    ensures { λ r. ⌜ r ≤ 65536 ⌝ }
+{
+    let verdict = put_counts(out, at, p);
+    let v = verdict::verdict_of(p.accepted, p.differs, cut);
+    let end = put_verdict(out, verdict, v);
+    if cut {
+        return lines::put_text(out, end, b"; the last tick is cut short\n");
+    }
+    lines::put_text(out, end, b"\n")
+}
+
+// Puts what follows the lines of the last n bytes read: where the input ends there, the refusal of a cut tick and the summary.
+pub fn put_end(out: &mut [u8; 65536], p: Track, n: usize) -> usize
+    requires { ⌜ p .at ≤ 64000 ⌝ }
+    ensures { λ r. ⌜ r ≤ 65536 ⌝ }
+{
+    let end = lines::put_end(out, p.at, n);
+    if n == lines::TICKS_BYTES {
+        return end;
+    }
+    put_summary(out, end, p, n % state_block::TICK_BYTES != 0)
 }

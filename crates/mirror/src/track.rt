@@ -1,5 +1,10 @@
 // A flight and its reflection, tick by tick.
-ghost use Prim.Native.Nat.{_≤_};
+ghost use mathlib.Core.Path.{_≡_};
+ghost use Prim.Native.Nat.{_+_, _*_, _≤_};
+ghost use lib.ListN.{length};
+ghost use Rattle.lines.specs.Text.{placed};
+ghost use Rattle.mirror.specs.Tracks as Tracks;
+ghost use Rattle.state_block.specs.Layout.{tickBytes};
 use crate::compare;
 use airframe::Airframe;
 use answers::Answer;
@@ -8,7 +13,7 @@ use flight::Tick;
 use wing::Ticked;
 
 // The two states after the ticks flown, how many they were, how many of them each flight accepted, the first that does not mirror
-// (0 for none), and where the next line stands on the page.
+// (0 for none), and where the lines on the page end.
 pub struct Track {
     pub first: Flight,
     pub second: Flight,
@@ -20,7 +25,7 @@ pub struct Track {
 }
 
 pub fn start(f: Flight) -> Track
-    ensures { λ r. ⌜ r .at ≤ 65536 ⌝ }
+    ensures { λ r. ⌜ Tracks.tracksOf r ≡ Tracks.tracksAtStart f ⌝ }
 {
     let second = f.reflected();
     Track {
@@ -35,7 +40,9 @@ pub fn start(f: Flight) -> Track
 }
 
 // One more where the answer is 0.
-fn counted(count: u64, answer: Answer) -> u64 {
+fn counted(count: u64, answer: Answer) -> u64
+    ensures { λ r. ⌜ r ≡ Tracks.countOf count answer ⌝ }
+{
     if answer.number() == 0 {
         return std::num::wrapping_add_u64(count, 1);
     }
@@ -43,7 +50,9 @@ fn counted(count: u64, answer: Answer) -> u64 {
 }
 
 // The first tick that does not mirror, this one being `index`.
-fn first_unlike(differs: u64, index: u64, x: Ticked, y: Ticked) -> u64 {
+fn first_unlike(differs: u64, index: u64, x: Ticked, y: Ticked) -> u64
+    ensures { λ r. ⌜ r ≡ Tracks.unlikeOf differs index x y ⌝ }
+{
     if differs != 0 {
         return differs;
     }
@@ -55,22 +64,21 @@ fn first_unlike(differs: u64, index: u64, x: Ticked, y: Ticked) -> u64 {
 
 // Puts the lines of the tick `index` on the page.
 fn put_both(out: &mut [u8; 65536], at: usize, index: u64, x: Ticked, y: Ticked) -> usize
-    requires { ⌜ at ≤ 65536 ⌝ }
-    ensures { λ r. ⌜ r ≤ 65536 ⌝ }
+    requires { ⌜ at + 320 ≤ 65536 ⌝ }
+    ensures page { λ _. ⌜ now (out .exit) ≡ placed (now (out .entry)) at (Tracks.pairText index x y) ⌝ }
+    ensures end { λ r. ⌜ r ≡ at + length (Tracks.pairText index x y) ⌝ ∗ ⌜ r ≤ at + 320 ⌝ }
 {
     let ours = x.report;
     let theirs = y.report;
     let answer = ours.answer;
     let mirrored_answer = theirs.answer;
-    let line = lines::with_room(out, at);
-    let mirrored_line = lines::put_line(out, line, index, answer, x.flight);
+    let mirrored_line = lines::put_line(out, at, index, answer, x.flight);
     lines::put_mirrored_line(out, mirrored_line, index, mirrored_answer, y.flight)
 }
 
 // The tracks after the tick that gave x, and y in the reflection; its lines are on the page up to `at`.
 fn after(p: Track, x: Ticked, y: Ticked, at: usize) -> Track
-    requires { ⌜ at ≤ 65536 ⌝ }
-    ensures { λ r. ⌜ r .at ≤ 65536 ⌝ }
+    ensures { λ r. ⌜ Tracks.tracksOf r ≡ Tracks.tracksAfter (Tracks.tracksOf p) x y ⌝ ∗ ⌜ r .at ≡ at ⌝ }
 {
     let ticks = std::num::wrapping_add_u64(p.ticks, 1);
     let differs = first_unlike(p.differs, ticks, x, y);
@@ -95,8 +103,10 @@ fn after(p: Track, x: Ticked, y: Ticked, at: usize) -> Track
 
 // Flies one tick and its reflection.
 fn fly_one(a: Airframe, p: Track, t: Tick, out: &mut [u8; 65536]) -> Track
-    requires { ⌜ p .at ≤ 65536 ⌝ }
-    ensures { λ r. ⌜ r .at ≤ 65536 ⌝ }
+    requires { ⌜ p .at + 320 ≤ 65536 ⌝ }
+    ensures tracks { λ r. ⌜ Tracks.tracksOf r ≡ Tracks.tracksOn a (Tracks.tracksOf p) t ⌝ }
+    ensures page { λ _. ⌜ now (out .exit) ≡ placed (now (out .entry)) (p .at) (Tracks.textOn a (Tracks.tracksOf p) t) ⌝ }
+    ensures end { λ r. ⌜ r .at ≡ p .at + length (Tracks.textOn a (Tracks.tracksOf p) t) ⌝ ∗ ⌜ r .at ≤ p .at + 320 ⌝ }
 {
     let x = lent_tick::tick_lent(a, p.first, t);
     let y = lent_tick::tick_lent(a.reflected(), p.second, t.reflected());
@@ -105,7 +115,7 @@ fn fly_one(a: Airframe, p: Track, t: Tick, out: &mut [u8; 65536]) -> Track
     after(p, x, y, at)
 }
 
-// Flies the whole ticks among the first n bytes of `ticks`.
+// Flies the whole ticks among the first n bytes of `ticks`, and puts their lines at the page's start.
 pub fn fly_some(
     a: Airframe,
     p: Track,
@@ -113,11 +123,14 @@ pub fn fly_some(
     n: usize,
     out: &mut [u8; 65536],
 ) -> Track
-    requires { ⌜ n ≤ 65536 ⌝ ∗ ⌜ p .at ≤ 65536 ⌝ }
-    ensures { λ r. ⌜ r .at ≤ 65536 ⌝ }
+    requires { ⌜ n ≤ 200 * tickBytes ⌝ }
+    ensures tracks { λ r. ⌜ Tracks.tracksOf r ≡ Tracks.tracksFlown a p (now (ticks .entry)) n ⌝ }
+    ensures page { λ _. ⌜ now (out .exit) ≡ placed (now (out .entry)) 0 (Tracks.textFlown a p (now (ticks .entry)) n) ⌝ }
+    ensures end { λ r. ⌜ r .at ≡ length (Tracks.textFlown a p (now (ticks .entry)) n) ⌝ ∗ ⌜ r .at ≤ 64000 ⌝ }
 {
     let count = n / state_block::TICK_BYTES;
     let mut pair = p;
+    pair.at = 0;
     let mut i = 0;
     while i < count {
         let t = state_block::read_tick(ticks, state_block::TICK_BYTES * i);

@@ -44,7 +44,7 @@ spin-fits m commands factor k g = go (flagAt (m .group .used) k)
 pub record Running (running : List Float) : Type 0 where
   pub motor : (k : ℕ) → k < 8 → Within nought one (at running k)
 
--- the motors that the marks leave out run as at the start
+-- the motors that the marks leave out have the running values of `start`
 pub record Still (used : List Bool) (start running : List Float) : Type 0 where
   pub motor : (k : ℕ) → k < 8 → flagAt used k ≡ false → at running k ≡ at start k
 

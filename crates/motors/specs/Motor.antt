@@ -56,11 +56,11 @@ putAt g (Servo k) t = g
 unfoldable pub putOf : MotorGroup → MixRow → MotorGroup
 putOf g row = putAt g (row .slot) (torqueOf (g .layout) row)
 
--- a later row of the same slot wins
+-- of several rows for one slot the last counts
 unfoldable pub groupOf : Rows → MotorLayout → Float → MotorGroup
 groupOf rows l tau = putTo putOf (undriven l tau) (rows .rows) (liveOf rows)
 
--- ---- the lag's factor over a step of h seconds
+-- ---- f of module 2
 unfoldable pub lagFactor : MotorGroup → Float → Float
 lagFactor g h = factorOf h (g .«time_constant_s»)
 
@@ -74,7 +74,7 @@ spinAt m commands factor k = spun (flagAt (m .group .used) k) (at (m .running) k
 unfoldable pub spinOf : Motors → List Float → Float → Motors
 spinOf m commands factor = record { group = m .group; running = slots (spinAt m commands factor) }
 
--- ---- thrust and torque. The exponent is 2: the running value times itself
+-- ---- thrust and torque. The exponent is 2, so a share is a square
 unfoldable pub thrustFraction : Float → Float → Float
 thrustFraction running exponent = running ⊗ running
 

@@ -1,5 +1,5 @@
--- The reflection of a group of motors (01, "Reflection negates": "in an airframe, roll and yaw of motor torques"), and what it is
--- for one group to be the other's reflection as numbers. Definitions only.
+-- The reflection of a group of motors (01, "Reflection negates": roll and yaw of each torque), and what it is for one group to be the
+-- other's reflection as numbers. Definitions only.
 use mathlib.Core.Path.{_≡_}
 use Rattle.mixers.specs.Reflection.{AxesRel, reflectAxes}
 use Rattle.motors.specs.declared.MotorGroup.{MotorGroup}

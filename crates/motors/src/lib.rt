@@ -1,4 +1,4 @@
-// Motor spin-up and the thrust and torque that the motors put on the body.
+// 01, module 2: motors that follow their commands, their thrust and their torque.
 ghost use mathlib.Core.Path.{_≡_};
 ghost use Rattle.motors.specs.Motor as Motor;
 ghost use Rattle.motors.specs.Reflection as Reflection;
@@ -8,13 +8,13 @@ use mixers::Rows;
 use mixers::Slot;
 use vector::Vec3;
 
-// How the motors' thrust turns into body torque, and how strong they are.
+// What all motors of a group have in common but their lag: places 40, 41, 35 and 36.
 pub struct MotorLayout {
-    // Distance from the roll or pitch axis of a motor whose row factor is 1.
+    // The arm of a roll or pitch factor of 1.
     pub moment_arm_m: f32,
-    // Yaw reaction torque per newton of thrust for a yaw factor of 1.
+    // N·m for each N of a motor with yaw factor 1.
     pub yaw_torque_per_thrust_m: f32,
-    // Thrust of one motor at full command.
+    // One motor's, at running value 1 in still air.
     pub max_thrust_n: f32,
     pub thrust_exponent: f32,
 }
@@ -22,28 +22,28 @@ pub struct MotorLayout {
 // A group of motors: what of it stays as it is in flight.
 pub struct MotorGroup {
     pub layout: MotorLayout,
-    // The time constant of the motors' lag behind their commands.
+    // Of their lag.
     pub time_constant_s: f32,
-    // Which motor slots are driven.
+    // The slots that follow their commands.
     pub used: [bool; 8],
-    // FRD body torque per newton of each motor's thrust (roll, pitch, yaw).
+    // By slot, torque on body axes for each N of its thrust.
     pub torque_per_thrust_m: [Vec3; 8],
 }
 
-// A group and the command that each of its motors runs at, after its lag.
+// A group and its running values.
 pub struct Motors {
     pub group: MotorGroup,
     pub running: [f32; 8],
 }
 
-// Total thrust along body x, and the FRD body torque.
+// Sums over the 8 slots; thrust is along body +x.
 pub struct MotorWrench {
     pub thrust_n: f32,
     pub torque_nm: Vec3,
 }
 
 impl MotorGroup {
-    // The motor rows of `rows`, laid out by `layout`; servo rows are skipped, and a later row of a slot wins.
+    // From the rows of an airframe.
     pub fn new(rows: Rows, layout: MotorLayout, time_constant_s: f32) -> Self
         ensures { λ r. ⌜ r ≡ Motor.groupOf rows layout «time_constant_s» ⌝ }
     {
@@ -58,7 +58,7 @@ impl MotorGroup {
         group
     }
 
-    // No row yet: no motor is driven.
+    // Before the first row: no slot is used.
     pub fn undriven(layout: MotorLayout, time_constant_s: f32) -> Self
         ensures { λ r. ⌜ r ≡ Motor.undriven layout «time_constant_s» ⌝ }
     {
@@ -72,7 +72,7 @@ impl MotorGroup {
         }
     }
 
-    // One row: a motor's slot and torque; a servo row is passed over.
+    // Takes in a row, where it is a motor's; of several rows for one slot the last counts.
     pub fn put(self, row: MixRow) -> Self
         ensures { λ r. ⌜ r ≡ Motor.putOf self row ⌝ }
     {
@@ -99,7 +99,7 @@ impl MotorGroup {
         self
     }
 
-    // The step factor of the motors' lag over a step of `step_s` seconds.
+    // f of module 2.
     pub fn lag_factor(self, step_s: f32) -> f32
         ensures { λ r. ⌜ r ≡ Motor.lagFactor self «step_s» ⌝ }
     {
@@ -118,7 +118,7 @@ impl MotorGroup {
 }
 
 impl Motors {
-    // Each used motor moved toward its command by `factor` of the gap; a command outside 0..1 saturates, and a NaN stops the motor.
+    // A step of the lag of the used motors: a command is held within 0..1, and NaN is 0.
     pub fn spin(mut self, commands: [f32; 8], factor: f32) -> Self
         ensures { λ r. ⌜ r ≡ Motor.spinOf self commands factor ⌝ }
     {
@@ -134,7 +134,7 @@ impl Motors {
         self
     }
 
-    // Total thrust and torque over all slots, used or not, each motor's thrust times what `falloff` leaves of it at `airspeed_mps`.
+    // Used or not, all 8 slots pull by their running values, less what `falloff` takes at the forward airspeed.
     pub fn wrench_with(self, falloff: ThrustFalloff, airspeed_mps: f32) -> MotorWrench
         ensures { λ r. ⌜ r ≡ Motor.wrenchWith self falloff «airspeed_mps» ⌝ }
     {
@@ -159,7 +159,7 @@ impl Motors {
 }
 
 impl MotorLayout {
-    // FRD body torque per newton of a row's motor.
+    // A motor row's torque for each N.
     fn torque(self, row: MixRow) -> Vec3
         ensures { λ r. ⌜ r ≡ Motor.torqueOf self row ⌝ }
     {
@@ -170,7 +170,7 @@ impl MotorLayout {
         )
     }
 
-    // One motor's thrust: thrust_scale 1.
+    // thrust_k of module 2; its 1 is the thrust scale.
     fn motor_thrust_n(self, running: f32, falloff: ThrustFalloff, airspeed_mps: f32) -> f32
         ensures { λ r. ⌜ r ≡ Motor.thrustOf self falloff «airspeed_mps» running ⌝ }
     {
@@ -180,7 +180,7 @@ impl MotorLayout {
     }
 }
 
-// The command a motor runs at after a step; an unused motor does not move.
+// One motor's new running value; an unused one keeps its own.
 fn spun(used: bool, running: f32, command: f32, factor: f32) -> f32
     ensures { λ r. ⌜ r ≡ Motor.spun used running command factor ⌝ }
 {
@@ -190,7 +190,7 @@ fn spun(used: bool, running: f32, command: f32, factor: f32) -> f32
     running
 }
 
-// The fraction of full thrust at `running`: its square, the exponent being 2.
+// share_k of module 2; the exponent is always 2.
 pub fn thrust_fraction(running: f32, thrust_exponent: f32) -> f32
     ensures { λ r. ⌜ r ≡ Motor.thrustFraction running «thrust_exponent» ⌝ }
 {

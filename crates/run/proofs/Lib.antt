@@ -1,4 +1,5 @@
 -- Laws of runs.
 pub mod Turns
+pub mod Calls
 pub mod Mirror
 pub mod Bytes

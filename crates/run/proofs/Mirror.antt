@@ -1,5 +1,6 @@
 -- Demand 3, proved: the tick's mirror law and its law of ranges, carried over the whole list of ticks by one induction each. Assumes nothing.
 use Prim.Native.Nat.{_+_, ℕ}
+use mathlib.Core.Bool.{Bool, cond, false, true}
 use mathlib.Core.List.{List, [], _∷_, map}
 use mathlib.Core.Path.{_∙_, _≡_, ap, ap₂, refl}
 use Rattle.airframe.proofs.Mirror.{reflect-airframe, refused-place-is}
@@ -8,6 +9,7 @@ use Rattle.airframe.specs.Reflection.{AirframeRel, reflectAirframe}
 use Rattle.airframe.specs.declared.Airframe.{Airframe}
 use Rattle.answers.specs.Answers.{numberOf, placeOf}
 use Rattle.answers.specs.declared.Answer.{Answer}
+use Rattle.answers.specs.declared.Answer.the-variants.{Done, WrongLength}
 use Rattle.flight.proofs.Mirror.{outside-is, reflect-flight, reflect-tick}
 use Rattle.flight.specs.Envelope.{outsideOf}
 use Rattle.flight.specs.Reflection.{FlightRel, TickRel, reflectFlight, reflectTick}
@@ -21,8 +23,10 @@ use Rattle.wing.specs.Reflection.{TickedRel}
 use Rattle.wing.proofs.Running.{Held, Running, Still}
 use Rattle.wing.specs.Tick.{tickOf}
 use Rattle.wing.specs.declared.Ticked.{Ticked}
-use Rattle.run.specs.Mirrored.{Agree, All, Each, InRange, Mirrored, Ranges, all-more, all-none, each-more, each-none}
-use Rattle.run.specs.Run.{Progress, callsOf, oneIfDone, progressed, runFrom, runOf}
+use Rattle.run.proofs.Calls.{is-its-calls}
+use Rattle.run.specs.Calls.{Each, each-more, each-none}
+use Rattle.run.specs.Mirrored.{Agree, All, InRange, Mirrored, RanRel, Ranges, all-more, all-none}
+use Rattle.run.specs.Run.{Progress, callsOf, ended, isWhole, oneIfDone, progressed, ranOver, runFrom, runOf}
 
 -- ---- the ticks of a reflected list
 ticks-mirror : (ts : List Tick) → Each TickRel ts (map reflectTick ts)
@@ -65,6 +69,16 @@ pub run-mirror : {a a' : Airframe} {f f' : Flight} {ts ts' : List Tick} → Airf
 unfolding runOf
 run-mirror h k ws = let r = run-from-mirror h (record { flight = k; accepted = refl }) ws in (r .flight, r .accepted)
 
+-- ---- the runs called once on a trace's ticks, whole or not
+pub ran-mirror : (a : Airframe) (f : Flight) (s : List ℕ) (ts : List Tick) → RanRel (ranOver a f s ts) (ranOver (reflectAirframe a) (reflectFlight f) s (map reflectTick ts))
+unfolding ranOver ended
+ran-mirror a f s ts = go (isWhole s)
+  where
+    go : (t : Bool) → RanRel (cond t (ended Done (runOf a f ts .flight) (runOf a f ts .accepted)) (ended WrongLength f 0))
+        (cond t (ended Done (runOf (reflectAirframe a) (reflectFlight f) (map reflectTick ts) .flight) (runOf (reflectAirframe a) (reflectFlight f) (map reflectTick ts) .accepted)) (ended WrongLength (reflectFlight f) 0))
+    go true = let r = run-mirror (reflect-airframe a) (reflect-flight f) (ticks-mirror ts) in record { answer = refl; state = r .0; count = r .1 }
+    go false = record { answer = refl; state = reflect-flight f; count = refl }
+
 -- ---- the ranges
 in-range : (a : Airframe) (start f : Flight) → Running f → Still a start f → InRange a start f
 in-range a start f r s = record { motors = Group.in-range (r .motors) (s .motors); surface = r .servo }
@@ -95,6 +109,8 @@ mirrored a s ts e o g =
     let T = ticks-mirror ts in
     let r = run-mirror A S T in
     record {
+      calls = is-its-calls a s ts;
+      calls-reflected = is-its-calls (reflectAirframe a) (reflectFlight s) (map reflectTick ts);
       each-tick = calls-mirror A S T;
       at-start = S;
       at-end = r .0;

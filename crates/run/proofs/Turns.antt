@@ -41,11 +41,6 @@ turned r a s i n p l = ap (λ (m : ℕ). runFrom a p (map (reflectedIf r) (ticks
     none : (i n : ℕ) → n ≤ i → n - i ≡ 0
     none i n l = omega arith
 
--- of an accepted airframe test 6 passes
-pub accepted-tick : (a : Airframe) (f : Flight) (t : Tick) → refusedPlace a ≡ 0 → tickOf a f t ≡ acceptedTick a f t
-unfolding tickOf
-accepted-tick a f t e = rw e
-
 refused-stays : (a : Airframe) (p : Progress) (t : Tick) → eqb (refusedPlace a) 0 ≡ false → progressed a p t ≡ p
 unfolding progressed tickOf refusedOf oneIfDone
 refused-stays a p t e = rw (e, add-zero)
@@ -72,20 +67,20 @@ unfolding refusedOf
 kept-inside f n true e i = e
 kept-inside f n false e i = i
 
-pub stays-inside : (a : Airframe) (f : Flight) (t : Tick) → isInside f ≡ true → isInside (acceptedTick a f t .flight) ≡ true
-unfolding acceptedTick unlessDeparted refusedOf
-stays-inside a f t i = rw i (go (inside stepLeast stepMost (t .«step_s»)))
+pub stays-inside : (a : Airframe) (f : Flight) (t : Tick) → refusedPlace a ≡ 0 → isInside f ≡ true → isInside (tickOf a f t .flight) ≡ true
+unfolding tickOf acceptedTick unlessDeparted refusedOf
+stays-inside a f t e i = rw (e, i) (go (inside stepLeast stepMost (t .«step_s»)))
   where
     go : (b : Bool) → isInside (cond b (cond (isInside (nextOf a f t .flight)) (nextOf a f t) (refusedOf Departure f)) (refusedOf StepOutside f) .flight) ≡ true
     go true = kept-inside f (nextOf a f t) _ refl i
     go false = i
 
 -- what a turn of the loop keeps is the run's progress
-pub progress : (a : Airframe) (p : Progress) (t u : Tick) (k : Ticked) (n : ℕ) → refusedPlace a ≡ 0 → u ≡ t → k ≡ acceptedTick a (p .flight) u → n ≡ oneIfDone (k .report .answer)
+pub progress : (a : Airframe) (p : Progress) (t u : Tick) (k : Ticked) (n : ℕ) → u ≡ t → k ≡ tickOf a (p .flight) u → n ≡ oneIfDone (k .report .answer)
     → _≡_ {A = Progress} (record { flight = k .flight; accepted = p .accepted + n }) (progressed a p t)
 unfolding progressed
-progress a p t u k n e h g m =
-    let q : k ≡ tickOf a (p .flight) t = g ∙ ap (acceptedTick a (p .flight)) h ∙ sym (accepted-tick a (p .flight) t e) in
+progress a p t u k n h g m =
+    let q : k ≡ tickOf a (p .flight) t = g ∙ ap (tickOf a (p .flight)) h in
     ap₂ (λ (x : Ticked) (j : ℕ). record { flight = x .flight; accepted = p .accepted + j }) q (m ∙ ap (λ (x : Ticked). oneIfDone (x .report .answer)) q)
 
 -- at the end

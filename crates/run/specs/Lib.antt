@@ -1,4 +1,5 @@
--- The run over a trace, and demand 3. Definitions only.
+-- Runs, and demand 3. Definitions only.
 pub mod Run
+pub mod Calls
 pub mod Mirrored
 pub mod Contracts

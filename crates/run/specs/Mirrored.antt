@@ -1,10 +1,10 @@
 -- Demand 3, the whole claim, for a surveyor to read alone.
 --
--- A is an accepted airframe, S an accepted state, T a list of ticks of any bits, refused ones included. A', S' and T' are their
--- reflections: sign bits flipped (roll and yaw of motor torques and surface weights; velocity and position east, i, k, p, r; wind
--- east). T is flown from S with A, and T' from S' with A'; each tick gets the state the last one handed back. `callsOf` is each
--- call's report and state, `runOf` the run's last state and count, `ranOf` the run called once on a trace's bytes: all by demand 2's
--- definition (Run.antt). Definitions only.
+-- A is any accepted airframe, S any accepted state, T any list of ticks, whatever their bits, also such as are refused. A', S'
+-- and T' are A, S and T with left and right exchanged by sign bits: torques and weights in roll and yaw, position, velocity and
+-- wind in east, the attitude in i and k, the rates in p and r. One run flies T with A from S, the other T' with A' from S'; a
+-- tick starts from what the tick before it handed back. `callsOf` is each call's report and state, `runOf` a run's last state and
+-- count, `ranOf` the run that gets all bytes of a trace at once: all by demand 2's definition (Run.antt). Definitions only.
 use Prim.Native.Nat.{_<_, ℕ}
 use mathlib.Core.Bool.{false, true}
 use mathlib.Core.List.{List, [], _∷_, map}
@@ -23,13 +23,10 @@ use Rattle.float.specs.Same.{Rel}
 use Rattle.mixers.specs.Slots.{at}
 use Rattle.motors.specs.Running.{MotorsInRange}
 use Rattle.wing.specs.declared.Ticked.{Ticked}
-use Rattle.run.specs.Run.{callsOf, ranOf, reflectTrace, runOf, ticksOf}
+use Rattle.run.specs.Calls.{Each}
+use Rattle.run.specs.Run.{acceptedIn, callsOf, ranOf, reflectTrace, runOf, stateAfter, ticksOf}
 use Rattle.run.specs.declared.Pair.{Pair}
-
--- two lists of one length, related element by element
-pub data Each {X : Type 0} (R : X → X → Type 0) : List X → List X → Type 0 where
-  each-none : Each R [] []
-  each-more : {x y : X} {xs ys : List X} → R x y → Each R xs ys → Each R (x ∷ xs) (y ∷ ys)
+use Rattle.run.specs.declared.Ran.{Ran}
 
 -- each element of a list
 pub data All {X : Type 0} (P : X → Type 0) : List X → Type 0 where
@@ -45,19 +42,26 @@ pub record Agree (k k' : Ticked) : Type 0 where
   pub beta : Rel true (k .report .«beta_rad») (k' .report .«beta_rad»)
   pub state : FlightRel (k .flight) (k' .flight)
 
--- the running values of a state, in a run that began at `start`: every used motor's within 0 and 1, unused ones as at the start,
--- every surface's within -1 and 1
+-- the running values of a state, in a run that began at `start`: a used motor's in 0..1, an unused one's that of `start`, a
+-- surface's in -1..1
 pub record InRange (a : Airframe) (start f : Flight) : Type 0 where
   pub motors : MotorsInRange (a .motors .used) (start .motors) (f .motors)
   pub surface : (k : ℕ) → k < 8 → Within minusOne one (at (f .servos) k)
 
--- one run: at the start and after each tick the running values are in range
+-- one run: before its first tick and after every tick the running values are in range
 pub record Ranges (a : Airframe) (s : Flight) (ts : List Tick) : Type 0 where
   pub at-start : InRange a s s
   pub after-each : All (λ (k : Ticked). InRange a s (k .flight)) (callsOf a s ts)
 
+-- the run called once is its calls: its last state is the one that the last call handed back, its count how many answered 0
+pub record IsItsCalls (a : Airframe) (s : Flight) (ts : List Tick) : Type 0 where
+  pub end : runOf a s ts .flight ≡ stateAfter s (callsOf a s ts)
+  pub count : runOf a s ts .accepted ≡ acceptedIn (callsOf a s ts)
+
 -- demand 3, one named field a clause
 pub record Mirrored (a : Airframe) (s : Flight) (ts : List Tick) : Type 0 where
+  pub calls : IsItsCalls a s ts
+  pub calls-reflected : IsItsCalls (reflectAirframe a) (reflectFlight s) (map reflectTick ts)
   pub each-tick : Each Agree (callsOf a s ts) (callsOf (reflectAirframe a) (reflectFlight s) (map reflectTick ts))
   pub at-start : FlightRel s (reflectFlight s)
   pub at-end : FlightRel (runOf a s ts .flight) (runOf (reflectAirframe a) (reflectFlight s) (map reflectTick ts) .flight)
@@ -65,10 +69,18 @@ pub record Mirrored (a : Airframe) (s : Flight) (ts : List Tick) : Type 0 where
   pub ranges : Ranges a s ts
   pub ranges-reflected : Ranges (reflectAirframe a) (reflectFlight s) (map reflectTick ts)
 
+-- what two runs called once hand back: the same answer, states that are each other's reflections, equal counts
+pub record RanRel (r r' : Ran) : Type 0 where
+  pub answer : r' .answer ≡ r .answer
+  pub state : FlightRel (r .flight) (r' .flight)
+  pub count : r' .accepted ≡ r .accepted
+
 -- What `mirrored_pair` promises of the two runs it flies over the bytes of T: both are demand 2's, the second over the bytes with
--- each wind east's sign bit flipped, which are the bytes of T'; and where A and S are accepted, all of demand 3 holds of them.
+-- each wind east's sign bit flipped, which are the bytes of T'; what they hand back mirrors; and where A and S are accepted, all of
+-- demand 3 holds, over the trace's ticks and over every other list.
 pub record Flown (a : Airframe) (s : Flight) (trace : List ℕ) (r : Pair) : Type 0 where
   pub first : r .first ≡ ranOf a s trace
   pub second : r .second ≡ ranOf (reflectAirframe a) (reflectFlight s) (reflectTrace trace)
   pub ticks : ticksOf (reflectTrace trace) ≡ map reflectTick (ticksOf trace)
-  pub mirrored : refusedPlace a ≡ 0 → outsideOf s ≡ 0 → Mirrored a s (ticksOf trace)
+  pub ends : RanRel (r .first) (r .second)
+  pub mirrored : refusedPlace a ≡ 0 → outsideOf s ≡ 0 → (ts : List Tick) → Mirrored a s ts

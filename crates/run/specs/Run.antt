@@ -1,9 +1,9 @@
--- A run by demand 2's definition (01, "A run by demand 2's definition keeps a state .. and a count"): it is fed an airframe and ticks
--- in order; each tick gets the state that the last one handed back, after a refusal too. Definitions only.
+-- 01, "A run by demand 2's definition": ticks one by one, always with the same airframe; a tick starts from what the tick before
+-- it handed back, after a refusal too. Definitions only.
 use Prim.Native.Nat.{_%_, _*_, _+_, _/_, suc, zero, ℕ}
 use lib.Dec.{eqb}
 use lib.ListN.{length}
-use mathlib.Core.Bool.{cond}
+use mathlib.Core.Bool.{Bool, cond}
 use mathlib.Core.List.{List, [], _∷_}
 use Rattle.airframe.specs.declared.Airframe.{Airframe}
 use Rattle.answers.specs.Answers.{numberOf}
@@ -26,7 +26,7 @@ pub record Progress : Type 0 where
 unfoldable pub oneIfDone : Answer → ℕ
 oneIfDone x = cond (eqb (numberOf x) 0) 1 0
 
--- a refused tick leaves the state and the count; an accepted one's next state is kept, and the count rises by one
+-- a refusal keeps state and count; else the next state takes the place of the state, and the count goes up by 1
 unfoldable pub progressed : Airframe → Progress → Tick → Progress
 progressed a p t = record {
   flight = tickOf a (p .flight) t .flight;
@@ -46,7 +46,19 @@ unfoldable pub callsOf : Airframe → Flight → List Tick → List Ticked
 callsOf a f [] = []
 callsOf a f (t ∷ ts) = tickOf a f t ∷ callsOf a (tickOf a f t .flight) ts
 
+-- what the calls tell of the run: how many answered 0, and the last call's state
+unfoldable pub acceptedIn : List Ticked → ℕ
+acceptedIn [] = 0
+acceptedIn (k ∷ ks) = oneIfDone (k .report .answer) + acceptedIn ks
+
+unfoldable pub stateAfter : Flight → List Ticked → Flight
+stateAfter f [] = f
+stateAfter f (k ∷ ks) = stateAfter (k .flight) ks
+
 -- ---- over a trace's bytes: whole ticks
+abbrev pub isWhole : List ℕ → Bool
+isWhole s = eqb (length s % tickBytes) 0
+
 unfoldable pub ticksFrom : List ℕ → ℕ → ℕ → List Tick
 ticksFrom s i zero = []
 ticksFrom s i (suc n) = tickFrom s (tickBytes * i) ∷ ticksFrom s (suc i) n
@@ -57,15 +69,15 @@ ticksOf s = ticksFrom s 0 (length s / tickBytes)
 unfoldable pub ended : Answer → Flight → ℕ → Ran
 ended x f n = record { answer = x; flight = f; accepted = n }
 
--- trace length (1) first, which leaves the state, with a count of 0; else the answer is 0, with the run's end state and count
+-- a trace that is not whole ticks: 1, the given state and 0; else 0, with the run's last state and count
 unfoldable pub ranOver : Airframe → Flight → List ℕ → List Tick → Ran
 ranOver a f s ts =
-    cond (eqb (length s % tickBytes) 0) (ended Done (runOf a f ts .flight) (runOf a f ts .accepted)) (ended WrongLength f 0)
+    cond (isWhole s) (ended Done (runOf a f ts .flight) (runOf a f ts .accepted)) (ended WrongLength f 0)
 
 unfoldable pub ranOf : Airframe → Flight → List ℕ → Ran
 ranOf a f s = ranOver a f s (ticksOf s)
 
--- ---- a trace reflected on its bytes: the sign bit of each tick's wind east flipped (01, "a list of ticks is reflected tick by tick")
+-- ---- a trace reflected on its bytes: the sign bit of each tick's wind east flipped (01, "Reflection negates")
 unfoldable pub reflectTo : List ℕ → ℕ → List ℕ
 reflectTo s zero = s
 reflectTo s (suc n) = reflectTickBytes (reflectTo s n) (tickBytes * n)

@@ -27,8 +27,14 @@ pub struct Pair {
     pub second: Ran,
 }
 
-// Flies the whole trace from `f`: a trace that is not whole ticks gets 1 and leaves `f`; a refused tick leaves the state, and the
-// next one follows.
+// Whether the trace is whole ticks.
+pub fn is_whole(trace: &[u8]) -> bool
+    ensures { λ r. ⌜ r ≡ Run.isWhole (now (trace .entry)) ⌝ }
+{
+    trace.len() % state_block::TICK_BYTES == 0
+}
+
+// Flies the whole trace from `f`; a refused tick does not end the run. A trace that is not whole ticks gets 1, and `f` back.
 pub fn run(a: Airframe, f: Flight, trace: &[u8]) -> Ran
     ensures { λ r. ⌜ r ≡ Run.ranOf a f (now (trace .entry)) ⌝ }
 {
@@ -48,16 +54,16 @@ pub fn mirrored_pair(a: Airframe, f: Flight, trace: &[u8]) -> Pair
 fn run_track(a: Airframe, f: Flight, trace: &[u8], reflect: bool) -> Ran
     ensures { λ r. ⌜ r ≡ Contracts.trackRan reflect a f (now (trace .entry)) ⌝ }
 {
-    if trace.len() % state_block::TICK_BYTES != 0 {
-        return ended(Answer::WrongLength, f, 0);
-    }
-    if a.refused_place() == 0 {
-        if f.is_inside() {
-            return fly_all(a, f, trace, reflect);
+    if is_whole(trace) {
+        if a.refused_place() == 0 {
+            if f.is_inside() {
+                return fly_all(a, f, trace, reflect);
+            }
+            return ended(Answer::Done, f, 0);
         }
         return ended(Answer::Done, f, 0);
     }
-    ended(Answer::Done, f, 0)
+    ended(Answer::WrongLength, f, 0)
 }
 
 fn ended(answer: Answer, flight: Flight, accepted: u64) -> Ran

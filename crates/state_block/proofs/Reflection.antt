@@ -1,4 +1,4 @@
--- Flipping the sign bit of the wind's east number in a tick's bytes reflects the tick (01, "Reflection negates, by flipping the sign bit"). Assumes nothing.
+-- Flipping the sign bit of the wind's east number in a tick's bytes reflects the tick (01, "Reflection negates"). Assumes nothing.
 use Prim.Native.Nat.{_%_, _*_, _+_, _/_, _<_, _≤_, suc, zero, ℕ}
 use borrow.Author.Tests.{le-leb, lt-leb, ltb-false, ltb-true}
 use lib.Dec.{eqb, leb, ltb}

@@ -1,4 +1,4 @@
--- Writing a state and reading it again gives it back, number for number (01, "Blocks"). Assumes nothing.
+-- Writing a state or a tick and reading it again gives it back, number for number (01, "Blocks"). Assumes nothing.
 use Prim.Native.Nat.{_%_, _*_, _+_, _/_, _<_, _≤_, suc, zero, ℕ}
 use borrow.Author.Tests.{eq-eqb}
 use lib.Dec.{T}
@@ -11,15 +11,17 @@ use mathlib.Core.Logic.{_⊎_, inl, inr}
 use mathlib.Core.Path.{_∙_, _≡_, ap, refl, subst, sym}
 use native.Mathlib.Nat.{add-zero, eq-or-lt-of-le}
 use native.Mathlib.Omega.{arith}
+use Rattle.answers.specs.declared.Answer.the-variants.{Done}
 use Rattle.flight.specs.Envelope.{outsideOf}
 use Rattle.flight.specs.declared.Flight.{Flight}
+use Rattle.flight.specs.declared.Tick.{Tick}
 use Rattle.float.specs.Bytes.{byteAt, put, word}
 use Rattle.mixers.proofs.Slots.{slots-at}
 use Rattle.mixers.specs.Slots.{at, slots}
 use Rattle.vector.specs.declared.Quaternion.{Quaternion}
 use Rattle.vector.specs.declared.Vec3.{Vec3}
 use Rattle.state_block.proofs.Writing.{length-putFloat, length-putFloats}
-use Rattle.state_block.specs.Layout.{acceptedState, attitudeFrom, flightFrom, floatAt, floatsFrom, putAttitude, putBody, putFlight, putFloat, putFloats, putVec, readStateOf, slotFrom, testedState, vecFrom, writtenState}
+use Rattle.state_block.specs.Layout.{acceptedState, attitudeFrom, flightFrom, floatAt, floatsFrom, putAttitude, putBody, putFlight, putFloat, putFloats, putVec, putTick, readStateOf, readTickOf, slotFrom, testedState, tickFrom, vecFrom, writtenState, writtenTick}
 
 -- ---- four bytes
 
@@ -323,3 +325,69 @@ flight-fits s i = record {
   motors-fit = floats-fit s (i + 52);
   servos-fit = floats-fit s (i + 84);
 }
+
+-- ---- the whole tick
+
+-- a tick of numbers that 32 bits hold, with 8 motor and 8 servo commands: what every `Tick` of the code is
+pub record TickFits (t : Tick) : Type 0 where
+  pub step-fits : T (fits binary32 (t .«step_s»))
+  pub wind-fits : VecFits (t .«wind_ned_mps»)
+  pub commands-fit : SlotsFit (t .motors)
+  pub servo-commands-fit : SlotsFit (t .servos)
+
+module _ (s : List ℕ) (i : ℕ) (t : Tick) (l : i + 80 ≤ length s) (h : TickFits t) where
+  abbrev t1 : List ℕ
+  t1 = putFloat s i (t .«step_s»)
+
+  abbrev t2 : List ℕ
+  t2 = putVec t1 (i + 4) (t .«wind_ned_mps»)
+
+  abbrev t3 : List ℕ
+  t3 = putFloats t2 (i + 16) (t .motors) 8
+
+  abbrev t4 : List ℕ
+  t4 = putFloats t3 (i + 48) (t .servos) 8
+
+  m1 : length t1 ≡ length s
+  m1 = length-putFloat s i (t .«step_s»)
+
+  m2 : length t2 ≡ length s
+  m2 = length-putVec t1 (i + 4) (t .«wind_ned_mps») ∙ m1
+
+  m3 : length t3 ≡ length s
+  m3 = length-putFloats t2 (i + 16) (t .motors) 8 ∙ m2
+
+  -- what each later part leaves as it was
+  n3 : Kept t3 t4 (i + 48)
+  n3 j m = slots-before t3 (i + 48) (t .servos) 8 j m
+
+  n2 : Kept t2 t4 (i + 16)
+  n2 j m = n3 j (omega arith) ∙ slots-before t2 (i + 16) (t .motors) 8 j m
+
+  n1 : Kept t1 t4 (i + 4)
+  n1 j m = n2 j (omega arith) ∙ vec-before t1 (i + 4) (t .«wind_ned_mps») j m
+
+  pub length-putTick : length (putTick s i t) ≡ length s
+  unfolding putTick
+  length-putTick = length-putFloats t3 (i + 48) (t .servos) 8 ∙ m3
+
+  -- written, then read
+  pub tick-same : tickFrom (putTick s i t) i ≡ t
+  unfolding tickFrom putTick
+  tick-same =
+      simp (
+        n1 i (omega arith),
+        float-same s i (t .«step_s») (omega arith) (h .step-fits),
+        vec-kept t2 t4 (i + 16) (i + 4) n2 (omega arith),
+        vec-same t1 (i + 4) (t .«wind_ned_mps») (omega (arith, m1)) (h .wind-fits),
+        slots-kept t3 t4 (i + 48) (i + 16) n3 (omega arith),
+        slots-same t2 (i + 16) (t .motors) (omega (arith, m2)) (h .commands-fit),
+        slots-same t3 (i + 48) (t .servos) (omega (arith, m3)) (h .servo-commands-fit),
+      )
+
+-- a tick written into 80 bytes and read again is the same
+pub tick-written-then-read : (s : List ℕ) (t : Tick) → length s ≡ 80 → TickFits t → readTickOf (writtenTick s t) ≡ record { answer = Done; tick = t }
+unfolding writtenTick readTickOf
+tick-written-then-read s t l h =
+    let b : 0 + 80 ≤ length s = omega arith in
+    simp (eq-eqb _ _ l, eq-eqb _ _ (length-putTick s 0 t b h ∙ l), tick-same s 0 t b h)

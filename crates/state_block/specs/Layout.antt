@@ -3,7 +3,7 @@
 use Prim.Native.Nat.{_*_, _+_, suc, zero, ℕ}
 use lib.Dec.{eqb}
 use lib.Ieee.{Float, binary32, ofBits, toBits}
-use lib.ListN.{length}
+use lib.ListN.{length, replicate}
 use mathlib.Core.Bool.{cond}
 use mathlib.Core.List.{List}
 use Rattle.answers.specs.declared.Answer.{Answer}
@@ -13,12 +13,14 @@ use Rattle.flight.specs.Envelope.{outsideOf, zeroFlight}
 use Rattle.flight.specs.declared.Flight.{Flight}
 use Rattle.flight.specs.declared.Tick.{Tick}
 use Rattle.float.specs.Bytes.{put, word}
+use Rattle.float.specs.Notation.{nought}
 use Rattle.mixers.specs.Slots.{at, slots}
 use Rattle.vector.specs.Rotation.{quat}
-use Rattle.vector.specs.Vector.{vec}
+use Rattle.vector.specs.Vector.{vec, zeroVec}
 use Rattle.vector.specs.declared.Quaternion.{Quaternion}
 use Rattle.vector.specs.declared.Vec3.{Vec3}
 use Rattle.state_block.specs.declared.StateRead.{StateRead}
+use Rattle.state_block.specs.declared.TickRead.{TickRead}
 
 -- ---- the table of places: at which byte of its block each part begins; a state's position and a tick's step begin it
 
@@ -35,7 +37,7 @@ attitudeBytes = 4 * numberBytes
 abbrev pub slotsBytes : ℕ
 slotsBytes = 8 * numberBytes
 
--- a state, 116 bytes: position, velocity (north, east, down), attitude w i j k, body rates p q r, running motors 8, running servos 8
+-- where the parts of a state stand: the position first, the servos' running values last
 abbrev pub velocityAt : ℕ
 velocityAt = vecBytes
 
@@ -54,7 +56,7 @@ servosAt = motorsAt + slotsBytes
 abbrev pub stateBytes : ℕ
 stateBytes = servosAt + slotsBytes
 
--- a tick, 80 bytes: step h, wind 3 (north, east, down), motor commands 8, servo commands 8
+-- where the parts of a tick stand, its step being the first
 abbrev pub windAt : ℕ
 windAt = numberBytes
 
@@ -126,6 +128,16 @@ readStateOf s =
     cond (eqb (length s) stateBytes) (testedState (flightFrom s 0))
     (refusedState WrongLength)
 
+-- ---- reading a tick block by itself: 80 bytes, else 1 and a tick of zeros; no number is tested
+
+unfoldable pub zeroTick : Tick
+zeroTick = record { «step_s» = nought; «wind_ned_mps» = zeroVec; motors = replicate 8 nought; servos = replicate 8 nought }
+
+unfoldable pub readTickOf : List ℕ → TickRead
+readTickOf s =
+    cond (eqb (length s) tickBytes) (record { answer = Done; tick = tickFrom s 0 })
+    (record { answer = WrongLength; tick = zeroTick })
+
 -- ---- writing: one number after the other, in the block's order
 
 unfoldable pub putFloat : List ℕ → ℕ → Float → List ℕ
@@ -160,9 +172,21 @@ putBody s i b =
 unfoldable pub putFlight : List ℕ → ℕ → Flight → List ℕ
 putFlight s i f = putFloats (putFloats (putBody s i (f .body)) (i + motorsAt) (f .motors) 8) (i + servosAt) (f .servos) 8
 
--- "Writing a state needs exactly 116 bytes lent, else 1; its numbers are not tested": refused, the bytes stay as found
+unfoldable pub putTick : List ℕ → ℕ → Tick → List ℕ
+putTick s i t =
+    putFloats
+    (putFloats (putVec (putFloat s i (t .«step_s»)) (i + windAt) (t .«wind_ned_mps»)) (i + motorCommandsAt) (t .motors) 8)
+    (i + servoCommandsAt)
+    (t .servos)
+    8
+
+-- a block is written, untested, into just as many bytes as it has, else 1 (01, "What the bench replies"), and the bytes stay as
+-- found
+unfoldable pub writeAnswer : ℕ → List ℕ → Answer
+writeAnswer n s = cond (eqb (length s) n) Done WrongLength
+
 unfoldable pub writtenState : List ℕ → Flight → List ℕ
 writtenState s f = cond (eqb (length s) stateBytes) (putFlight s 0 f) s
 
-unfoldable pub writeAnswer : List ℕ → Answer
-writeAnswer s = cond (eqb (length s) stateBytes) Done WrongLength
+unfoldable pub writtenTick : List ℕ → Tick → List ℕ
+writtenTick s t = cond (eqb (length s) tickBytes) (putTick s 0 t) s

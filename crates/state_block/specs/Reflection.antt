@@ -1,4 +1,4 @@
--- The reflection of a tick's bytes (01, "Reflection negates, by flipping the sign bit: .. in a tick, wind east"). Definitions only.
+-- The reflection of a tick's bytes (01, "Reflection negates"): wind east has its sign bit flipped. Definitions only.
 use Prim.Native.Nat.{_%_, _+_, ℕ}
 use lib.ListN.{set}
 use mathlib.Core.List.{List}

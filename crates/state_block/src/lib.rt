@@ -46,6 +46,12 @@ pub struct StateRead {
     pub flight: Flight,
 }
 
+// What reading a tick block gives: the reply, and the tick, all zeros where it is refused.
+pub struct TickRead {
+    pub answer: Answer,
+    pub tick: Tick,
+}
+
 // The vector whose three numbers stand at `at`.
 fn read_vec(s: &[u8], at: usize) -> Vec3
     requires { do ⌜ at + Layout.vecBytes ≤ (← ⟦s.len()⟧) ⌝ }
@@ -156,6 +162,39 @@ pub fn read_tick(s: &[u8], at: usize) -> Tick
     }
 }
 
+fn zero_tick() -> Tick
+    ensures { λ r. ⌜ r ≡ Layout.zeroTick ⌝ }
+{
+    let wind_ned_mps = Vec3::zeros();
+    let motors = [0.0; 8];
+    let servos = [0.0; 8];
+    Tick {
+        step_s: 0.0,
+        wind_ned_mps,
+        motors,
+        servos,
+    }
+}
+
+// The tick block `s`, refused where it does not have a tick's bytes. The numbers are not tested: each tick does that.
+pub fn read_tick_block(s: &[u8]) -> TickRead
+    ensures { λ r. ⌜ r ≡ Layout.readTickOf (now (s .entry)) ⌝ }
+{
+    let n = s.len();
+    if n == TICK_BYTES {
+        let tick = read_tick(s, 0);
+        return TickRead {
+            answer: Answer::Done,
+            tick,
+        };
+    }
+    let tick = zero_tick();
+    TickRead {
+        answer: Answer::WrongLength,
+        tick,
+    }
+}
+
 fn write_vec(s: &mut [u8], at: usize, v: Vec3)
     requires { do ⌜ at + Layout.vecBytes ≤ (← ⟦s.len()⟧) ⌝ }
     ensures { λ _. ⌜ now (s .exit) ≡ Layout.putVec (now (s .entry)) at v ⌝ }
@@ -204,12 +243,38 @@ fn write_flight(s: &mut [u8], at: usize, f: Flight)
 // The state's bytes into `s`, which must have as many as a state block, 116: else the bytes stay as found. The numbers are not tested.
 pub fn write_state(s: &mut [u8], f: Flight) -> Answer
     ensures { λ r. ⌜ now (s .exit) ≡ Layout.writtenState (now (s .entry)) f ⌝ }
-    ensures { λ r. ⌜ r ≡ Layout.writeAnswer (now (s .entry)) ⌝ }
+    ensures { λ r. ⌜ r ≡ Layout.writeAnswer Layout.stateBytes (now (s .entry)) ⌝ }
 {
     let lent = s.len();
     if lent != STATE_BYTES {
         return Answer::WrongLength;
     }
     write_flight(s, 0, f);
+    Answer::Done
+}
+
+// The tick's bytes into `s` at `at`.
+fn write_tick_at(s: &mut [u8], at: usize, t: Tick)
+    requires { do ⌜ at + Layout.tickBytes ≤ (← ⟦s.len()⟧) ⌝ }
+    ensures { λ _. ⌜ now (s .exit) ≡ Layout.putTick (now (s .entry)) at t ⌝ }
+{
+    let motors = t.motors;
+    let servos = t.servos;
+    float::write(s, at, t.step_s);
+    write_vec(s, at + WIND_AT, t.wind_ned_mps);
+    write_floats(s, at + MOTOR_COMMANDS_AT, motors);
+    write_floats(s, at + SERVO_COMMANDS_AT, servos);
+}
+
+// The tick's bytes into `s`, which must have as many as a tick block, 80: else the bytes stay as found. The numbers are not tested.
+pub fn write_tick(s: &mut [u8], t: Tick) -> Answer
+    ensures { λ r. ⌜ now (s .exit) ≡ Layout.writtenTick (now (s .entry)) t ⌝ }
+    ensures { λ r. ⌜ r ≡ Layout.writeAnswer Layout.tickBytes (now (s .entry)) ⌝ }
+{
+    let lent = s.len();
+    if lent != TICK_BYTES {
+        return Answer::WrongLength;
+    }
+    write_tick_at(s, 0, t);
     Answer::Done
 }

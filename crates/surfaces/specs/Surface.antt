@@ -18,7 +18,7 @@ use Rattle.vector.specs.declared.Vec3.{Vec3}
 use Rattle.surfaces.specs.declared.Factors.{Factors}
 use Rattle.surfaces.specs.declared.Surfaces.{Surfaces}
 
--- ---- weights from the mixer's rows: a motor row is skipped, and a later row of the same slot wins
+-- ---- weights from the servo rows: of several for one slot the last counts
 unfoldable pub putServo : Factors → ℕ → Vec3 → Factors
 putServo f k v = cond (ltb k 8) (record { at = set (f .at) k v }) f
 
@@ -35,7 +35,7 @@ noFactors = record { at = replicate 8 zeroVec }
 unfoldable pub factorsOf : Rows → List Vec3
 factorsOf rows = putTo putOf noFactors (rows .rows) (liveOf rows) .at
 
--- each factor over its axis's sum of squares; an axis whose squares sum to 0 weighs 0
+-- each factor over its axis's sum of squares; 0 where that is 0
 unfoldable pub squareAt : List Vec3 → ℕ → Vec3
 squareAt fs k = componentMul (vecAt fs k) (vecAt fs k)
 

@@ -1,4 +1,4 @@
-// Servo-driven control surfaces.
+// 01, module 3: servos and what they deflect.
 ghost use mathlib.Core.Path.{_≡_};
 ghost use Rattle.surfaces.specs.Surface as Surface;
 use mixers::MixRow;
@@ -6,22 +6,21 @@ use mixers::Rows;
 use mixers::Slot;
 use vector::Vec3;
 
-// The servos a mixer drives, each lagging its command, read back as aileron, elevator and rudder deflections: an axis's
-// deflection is the servos' least-squares fit to their row factors.
+// All 8 servos. An axis takes each of them by its weight, so that servos which stand at their factors deflect it fully.
 pub struct Surfaces {
-    // Each servo slot's roll, pitch and yaw factors over the axis's sum of squared factors; 0 for an axis no servo moves.
+    // By slot, for roll, pitch and yaw: its factor times the inverse of the axis's squares; 0 where these are 0.
     pub weights: [Vec3; 8],
-    // Each servo's position.
+    // The running values, -1..1.
     pub running: [f32; 8],
 }
 
-// The servo slots' factors by row.
+// What the servo rows say, by slot.
 pub struct Factors {
     pub at: [Vec3; 8],
 }
 
 impl Surfaces {
-    // The servo rows of `rows`; motor rows are skipped, and a later row of a slot wins. Servos start centered.
+    // From the rows of an airframe, with all servos at 0.
     pub fn new(rows: Rows) -> Self
         ensures { λ r. ⌜ r ≡ Surface.surfacesOf rows ⌝ }
     {
@@ -30,7 +29,7 @@ impl Surfaces {
         Surfaces { weights, running }
     }
 
-    // Each servo moved toward its command by `factor` of the gap; a command outside -1..1 saturates, and a NaN centers the servo.
+    // A step of the lag of all 8 servos: a command is held within -1..1, and NaN is 0.
     pub fn move_to(mut self, commands: [f32; 8], factor: f32) -> Self
         ensures { λ r. ⌜ r ≡ Surface.moveTo self commands factor ⌝ }
     {
@@ -44,7 +43,7 @@ impl Surfaces {
         self
     }
 
-    // Aileron (x), elevator (y) and rudder (z) deflections in rad, given each axis's deflection at full command.
+    // Aileron, elevator and rudder as x, y and z, in rad: the weighed sums times `max_deflection_rad`.
     pub fn deflection_rad(self, max_deflection_rad: Vec3) -> Vec3
         ensures { λ r. ⌜ r ≡ Surface.deflectionRad self «max_deflection_rad» ⌝ }
     {
@@ -60,7 +59,7 @@ impl Surfaces {
     }
 }
 
-// The factors of the servo rows, a later row of a slot over an earlier one.
+// Of several rows for one slot the last counts.
 fn factors_of(rows: Rows) -> [Vec3; 8]
     ensures { λ r. ⌜ r ≡ Surface.factorsOf rows ⌝ }
 {
@@ -78,7 +77,7 @@ fn factors_of(rows: Rows) -> [Vec3; 8]
 }
 
 impl Factors {
-    // One row: a servo's slot and factors; a motor row is passed over.
+    // Takes in a row, where it is a servo's.
     pub fn put(self, row: MixRow) -> Self
         ensures { λ r. ⌜ r ≡ Surface.putOf self row ⌝ }
     {

@@ -1,4 +1,4 @@
--- The prop wash (01, module 5: wash and added_pa only; an absent wash is all zeros). The density is an argument. Definitions only.
+-- The wash (01, module 5), all zeros where there is none. The density is an argument. Definitions only.
 use lib.Ieee.{Float, binary32, lt, neg}
 use mathlib.Core.Bool.{cond}
 use Rattle.float.specs.Notation.{_⊖_, _⊗_, _⊘_, atLeastZero, nought, two}
@@ -6,7 +6,7 @@ use Rattle.libm.specs.Sqrt.{sqrtOf}
 use Rattle.tailsitter_model.specs.declared.PropWash.{PropWash}
 use Rattle.tailsitter_model.specs.declared.Wash.{Wash}
 
--- nose first T/A; tail first at speed V against a static jet v = √(2T/ρA), with the sink's loss scaled by k: T/A - k·ρ·v·V
+-- nose first T/A; tail first, at a speed V, with the jet's v = √(2T/ρA) and the sink loss k: T/A - k·ρ·v·V
 unfoldable pub discPa : PropWash → Float → Float
 discPa w thrust = thrust ⊘ w .«disc_area_m2»
 
@@ -16,7 +16,7 @@ addedPa w thrust axial density =
     (discPa w thrust ⊖ w .«sink_loss» ⊗ density ⊗ sqrtOf binary32 (two ⊗ discPa w thrust ⊘ density) ⊗ neg axial)
     (discPa w thrust)
 
--- the speed of the jet over the wing, and the pressure over the surfaces where it adds to the free stream's
+-- in damping and pitch moments a pressure below 0 counts as 0
 unfoldable pub flowMps : Float → Float → Float
 flowMps added density = sqrtOf binary32 (two ⊗ atLeastZero added ⊘ density)
 

@@ -1,40 +1,39 @@
-// The props' slipstream over the control surfaces, by actuator-disc momentum theory along the thrust axis.
+// 01, module 5: the wash, by the momentum of the air through the propeller discs.
 ghost use mathlib.Core.Path.{_≡_};
 ghost use Rattle.tailsitter_model.specs.Slipstream as Slipstream;
 
-// Prop wash over a wing, as the aerodynamics take it; all zeros is no wash.
+// The five results of module 5, all 0 without a wash.
 pub struct Wash {
-    // Dynamic pressure added over the surfaces on top of the free stream's, in Pa; negative where the wash opposes it.
+    // Added to the free stream's pressure on the surfaces, in Pa; below 0 it takes from that.
     pub pressure_pa: f32,
-    // The same for the surfaces' roll (aileron) action.
+    // The same for the aileron.
     pub roll_pressure_pa: f32,
-    // Pitch moment the wash puts on the wing undeflected, over wing area times chord: positive nose up.
+    // Pitch torque on the wing over S·c, above 0 nose up.
     pub pitch_moment_pa: f32,
-    // Pitch moment the wash adds past the stall flying nose first.
+    // The same for what comes on top beyond the stall.
     pub stall_pitch_moment_pa: f32,
-    // The airspeed whose rate damping the wash adds, in m/s.
+    // In the wash scale, what V is in Q/V, in m/s.
     pub damping_mps: f32,
 }
 
-// How the props' wake reaches the surfaces.
+// Places 42 to 48 of an airframe.
 pub struct PropWash {
-    // Total disc area of the props.
+    // All propellers' discs together.
     pub disc_area_m2: f32,
-    // Share of the wake's added dynamic pressure that the surfaces see, and that their roll action sees.
+    // How much of the added pressure acts on the surfaces; `roll_fraction`: on the aileron.
     pub surface_fraction: f32,
     pub roll_fraction: f32,
-    // Share of the wing's rate damping inside the wash.
+    // Share of the rate terms in the wash.
     pub damping_fraction: f32,
-    // Scales the wash pressure that a tail-first sink takes off the surfaces.
+    // How strongly moving tail first takes the wash away.
     pub sink_loss: f32,
-    // Pitch moment coefficients of the wash on the wing, always and past the stall.
+    // Pitch moments for each Pa of the wash on the surfaces, in any flow and beyond the stall.
     pub pitch_moment: f32,
     pub stall_pitch_moment: f32,
 }
 
 impl PropWash {
-    // The wash at `thrust_n` while moving through air of `density_kgpm3` at `axial_mps` along the thrust axis (negative sinking
-    // tail first).
+    // The wash of `thrust_n` at the forward airspeed `axial_mps`, u: below 0 the aeroplane moves tail first.
     pub fn wash(self, thrust_n: f32, axial_mps: f32, density_kgpm3: f32) -> Wash
         ensures { λ r. ⌜ r ≡ Slipstream.washOf self «thrust_n» «axial_mps» «density_kgpm3» ⌝ }
     {
@@ -51,8 +50,7 @@ impl PropWash {
         }
     }
 
-    // Dynamic pressure the wake adds where it flows, before the surfaces' share, in Pa; negative where it takes away from the
-    // free stream's.
+    // `added` of module 5, in Pa: the disc's pressure, less what moving tail first costs.
     pub fn added_pa(self, thrust_n: f32, axial_mps: f32, density_kgpm3: f32) -> f32
         ensures { λ r. ⌜ r ≡ Slipstream.addedPa self «thrust_n» «axial_mps» «density_kgpm3» ⌝ }
     {

@@ -1,5 +1,5 @@
--- What the range law keeps of a state from tick to tick: its running values' ranges, that unused motors run as at the start, and that the values are 32-bit
--- floats. Assumes nothing.
+-- What the range law keeps of a state from tick to tick: its running values' ranges, that an unused motor's value stays, and that
+-- the values are 32-bit floats. Assumes nothing.
 use Prim.Native.Nat.{_<_, ℕ}
 use Rattle.airframe.specs.declared.Airframe.{Airframe}
 use Rattle.flight.specs.declared.Flight.{Flight}

@@ -1,4 +1,4 @@
--- The loads on the body (01, module 8: loads without lift group and delay line). Definitions only.
+-- The loads on the body (01, module 8), with neither a lift group nor a delay line. Definitions only.
 use lib.Ieee.{Float}
 use mathlib.Core.Bool.{cond}
 use Rattle.aero.specs.Wrench.{wrenchOf}
@@ -33,11 +33,11 @@ surfacesFor a f = record { weights = a .weights; running = f .servos }
 unfoldable pub airOf : Body → Vec3 → Vec3
 airOf b wind = inverseRotateOf (b .attitude) (airVelocity b wind)
 
--- an absent wash is all zeros
+-- zeros where the airframe has no wash
 unfoldable pub washFor : Airframe → Float → Float → Float → Wash
 washFor a thrust axial density = cond (a .«wash_present») (washOf (a .wash) thrust axial density) noWash
 
--- thrust along body x, below the center of gravity by the thrust line; the force on world axes
+-- thrust along body x, on a line that may lie below the centre of gravity; the force on NED axes
 unfoldable pub withThrust : FixedWingModel → Quaternion → MotorWrench → Aero → Loaded
 withThrust m q pull aero = record {
   loads = record {

@@ -54,14 +54,14 @@ unfoldable pub nextOf : Airframe → Flight → Tick → Ticked
 nextOf a f t =
     nextFrom a f (spunOf a f (t .motors) (t .«step_s»)) (movedOf a f (t .servos) (t .«step_s»)) (t .«wind_ned_mps») (t .«step_s»)
 
--- a refused tick hands back the state it was given, and reports alpha, beta and thrust 0
+-- a refusal: the given state again, and a report of zeros
 unfoldable pub refusedOf : Answer → Flight → Ticked
 refusedOf answer f = record {
   report = record { answer = answer; «alpha_rad» = nought; «beta_rad» = nought; «thrust_n» = nought };
   flight = f;
 }
 
--- 9: the next state outside the envelope
+-- 9: a departure
 unfoldable pub unlessDeparted : Flight → Ticked → Ticked
 unlessDeparted f n = cond (isInside (n .flight)) n (refusedOf Departure f)
 
@@ -72,6 +72,6 @@ acceptedTick a f t =
     (cond (inside stepLeast stepMost (t .«step_s»)) (unlessDeparted f (nextOf a f t)) (refusedOf StepOutside f))
     (refusedOf StateOutside f)
 
--- 6: an airframe number out of range
+-- 6: a number of the airframe outside its limits
 unfoldable pub tickOf : Airframe → Flight → Tick → Ticked
 tickOf a f t = cond (eqb (refusedPlace a) 0) (acceptedTick a f t) (refusedOf (NumberOutOfRange (refusedPlace a)) f)

@@ -1,7 +1,7 @@
-// The reference tick: the motors and surfaces through their lags, thrust along body x, the aerodynamics with the surfaces in the
-// props' wash, and the body's step, with the bench's tests around it.
+// 01, module 8: the tick. Lags, thrust, wash, aerodynamics and the body's step, with the tests 6 to 9 around them.
 ghost use mathlib.Core.Bool.{true};
 ghost use mathlib.Core.Path.{_≡_};
+ghost use Rattle.airframe.specs.Acceptance.{refusedPlace};
 ghost use Rattle.flight.specs.Envelope.{isInside};
 ghost use Rattle.wing.specs.Contracts as Contracts;
 ghost use Rattle.wing.specs.Loads as LoadsOf;
@@ -19,10 +19,10 @@ use surfaces::Surfaces;
 use tailsitter_model::Wash;
 use vector::Vec3;
 
-// Sea-level air density (ISA).
+// ρ, the same everywhere.
 pub const AIR_DENSITY_KGPM3: f32 = 1.225;
 
-// The loads on the body, with the flow angles and the thrust they came from.
+// Loads, and what a tick reports besides its answer.
 pub struct Loaded {
     pub loads: Loads,
     pub alpha_rad: f32,
@@ -62,9 +62,10 @@ pub fn tick(a: Airframe, f: Flight, t: Tick) -> Ticked
     refused(Answer::NumberOutOfRange(place), f)
 }
 
-// One tick of an airframe that is accepted: the tests 7, 8 and 9.
+// The same of an airframe that is accepted: the tests 7, 8 and 9.
 pub fn tick_accepted(a: Airframe, f: Flight, t: Tick) -> Ticked
-    ensures { λ r. ⌜ r ≡ TickOf.acceptedTick a f t ⌝ }
+    requires { ⌜ refusedPlace a ≡ 0 ⌝ }
+    ensures { λ r. ⌜ r ≡ TickOf.tickOf a f t ⌝ }
 {
     if f.is_inside() {
         return tick_inside(a, f, t, begin(a, t.step_s));
@@ -74,8 +75,8 @@ pub fn tick_accepted(a: Airframe, f: Flight, t: Tick) -> Ticked
 
 // The same from a state inside the envelope, with the lag factors of the tick's step: the tests 8 and 9.
 pub fn tick_inside(a: Airframe, f: Flight, t: Tick, lags: LagFactors) -> Ticked
-    requires { ⌜ isInside f ≡ true ⌝ ∗ ⌜ lags ≡ Contracts.beginOf a (t .«step_s») ⌝ }
-    ensures { λ r. ⌜ r ≡ TickOf.acceptedTick a f t ⌝ }
+    requires { ⌜ refusedPlace a ≡ 0 ⌝ ∗ ⌜ isInside f ≡ true ⌝ ∗ ⌜ lags ≡ Contracts.beginOf a (t .«step_s») ⌝ }
+    ensures { λ r. ⌜ r ≡ TickOf.tickOf a f t ⌝ }
 {
     if float::inside(t.step_s, 0.0009765625, 0.02) {
         return unless_departed(f, next_with(a, f, t, lags));
@@ -131,14 +132,7 @@ pub fn begin_after(a: Airframe, held: LagFactors, step_s: f32) -> LagFactors
     begin(a, step_s)
 }
 
-// The next state and its report, whatever the tests say.
-pub fn next(a: Airframe, f: Flight, t: Tick) -> Ticked
-    ensures { λ r. ⌜ r ≡ TickOf.nextOf a f t ⌝ }
-{
-    next_with(a, f, t, begin(a, t.step_s))
-}
-
-// The same with the lag factors handed in.
+// The next state and its report, whatever the tests say, with the lag factors of the tick's step.
 fn next_with(a: Airframe, f: Flight, t: Tick, lags: LagFactors) -> Ticked
     requires { ⌜ lags ≡ Contracts.beginOf a (t .«step_s») ⌝ }
     ensures { λ r. ⌜ r ≡ TickOf.nextOf a f t ⌝ }
@@ -209,7 +203,7 @@ pub fn loads(
     with_thrust(m, attitude, pull, aero)
 }
 
-// The prop wash; none where the airframe has none.
+// All zeros where the airframe has no wash.
 fn wash_of(a: Airframe, thrust_n: f32, axial_mps: f32, density_kgpm3: f32) -> Wash
     ensures { λ r. ⌜ r ≡ LoadsOf.washFor a «thrust_n» «axial_mps» «density_kgpm3» ⌝ }
 {
@@ -220,7 +214,7 @@ fn wash_of(a: Airframe, thrust_n: f32, axial_mps: f32, density_kgpm3: f32) -> Wa
     tailsitter_model::no_wash()
 }
 
-// The aerodynamics with the thrust: its axis is body x, and runs below the center of gravity.
+// Adds the thrust along body x, and its pitch torque by how far its line lies below the centre of gravity.
 fn with_thrust(
     m: FixedWingModel,
     attitude: vector::Quaternion,

@@ -1,8 +1,10 @@
-//! Airframe and state blocks read, states written: replies, rows and bytes, also bytes not written.
+//! Airframe, state and tick blocks read, states and ticks written: replies, rows and bytes, also
+//! those not written.
 
 use bench::raw;
-use oracle::blocks::{Airframe, STATE_BYTES, State, read_airframe, read_state, write_state};
-use oracle::rows::{StateRow, airframe_row, state_of, state_row};
+use oracle::blocks::{Airframe, STATE_BYTES, State, TICK_BYTES};
+use oracle::blocks::{read_airframe, read_state, read_tick, write_state, write_tick};
+use oracle::rows::{StateRow, TickRow, airframe_row, state_of, state_row, tick_of, tick_row};
 
 use super::figures::Figures;
 use super::input::Input;
@@ -29,6 +31,13 @@ fn state_differs(block: &[u8]) -> bool {
     raw::read_state(block, &mut row) != reply || !same_numbers(&row, &expected)
 }
 
+fn tick_differs(block: &[u8]) -> bool {
+    let read = read_tick(block);
+    let expected = read.map_or([0.0; 20], |tick| tick_row(&tick));
+    let mut row = [UNWRITTEN; 20];
+    raw::read_tick(block, &mut row) != reply_to(&read) || !same_numbers(&row, &expected)
+}
+
 fn numbers(block: &[u8]) -> Vec<f32> {
     let words = block.chunks_exact(4);
     let bits = words.map(|word| u32::from_be_bytes([word[0], word[1], word[2], word[3]]));
@@ -47,16 +56,39 @@ fn write_differs(row: &StateRow, length: usize) -> bool {
     raw::write_state(row, &mut ours) != reply || !written_alike(reply, &ours, &expected)
 }
 
+fn tick_write_differs(row: &TickRow, length: usize) -> bool {
+    let mut expected = vec![0xA5; length];
+    let mut ours = expected.clone();
+    let reply = reply_to(&write_tick(&tick_of(row), &mut expected));
+    raw::write_tick(row, &mut ours) != reply || !written_alike(reply, &ours, &expected)
+}
+
+/// Whether a call differs on the input's first tick, or on blocks of another length.
+fn ticks_differ(bytes: &[u8], input: &Input, figures: &mut Figures) -> bool {
+    let first = &input.trace[..TICK_BYTES.min(input.trace.len())];
+    let blocks = [first, short(first), bytes];
+    let lengths = [TICK_BYTES, first.len(), bytes.len()];
+    let row = input.ticks().next().unwrap_or([UNWRITTEN; 20]);
+    figures.blocks += (blocks.len() + lengths.len()) as u64;
+    blocks.iter().any(|block| tick_differs(block))
+        || lengths.iter().any(|length| tick_write_differs(&row, *length))
+}
+
+/// The block without its last byte.
+fn short(block: &[u8]) -> &[u8] {
+    &block[..block.len().saturating_sub(1)]
+}
+
 /// Whether a call differs on the input's own blocks, on all its bytes as one block, or on a block
 /// one byte short.
 pub fn differ(bytes: &[u8], figures: &mut Figures) -> bool {
     let input = Input::of(bytes);
-    let short = |block: &[u8]| block[..block.len().saturating_sub(1)].to_vec();
-    let airframes = [input.airframe.to_vec(), short(input.airframe), bytes.into()];
-    let states = [input.state.to_vec(), short(input.state), bytes.into()];
+    let airframes = [input.airframe, short(input.airframe), bytes];
+    let states = [input.state, short(input.state), bytes];
     let lengths = [STATE_BYTES, input.state.len(), bytes.len()];
     figures.blocks += (airframes.len() + states.len() + lengths.len()) as u64;
     airframes.iter().any(|block| airframe_differs(block))
         || states.iter().any(|block| state_differs(block))
         || (lengths.iter()).any(|length| write_differs(&input.start_row(), *length))
+        || ticks_differ(bytes, &input, figures)
 }

@@ -31,16 +31,18 @@ fn refused(rows: &mut [Vec<f32>], call: impl FnOnce(&mut [Vec<f32>]) -> u64) -> 
 fn reads_refused(rng: &mut Rng, input: &Input) -> bool {
     let airframe = length(rng, 106, true);
     let state = length(rng, 29, true);
-    let mut rows = [row(rng, airframe), row(rng, state)];
+    let tick = length(rng, 20, true);
+    let mut rows = [row(rng, airframe), row(rng, state), row(rng, tick)];
     refused(&mut rows[..1], |r| raw::prepare(input.airframe, &mut r[0]))
-        && refused(&mut rows[1..], |r| raw::read_state(input.state, &mut r[0]))
+        && refused(&mut rows[1..2], |r| raw::read_state(input.state, &mut r[0]))
+        && refused(&mut rows[2..], |r| raw::read_tick(&[0; 80], &mut r[0]))
 }
 
-fn write_refused(rng: &mut Rng) -> bool {
-    let count = length(rng, 29, true);
-    let state = row(rng, count);
-    let mut block = [0xA5; 116];
-    raw::write_state(&state, &mut block) == 1 && block == [0xA5; 116]
+/// A row that is not of the length `right` is not written into a block that is right for it.
+fn write_refused(rng: &mut Rng, right: usize, write: fn(&[f32], &mut [u8]) -> u64) -> bool {
+    let count = length(rng, right, true);
+    let mut block = vec![0xA5; 4 * right];
+    write(&row(rng, count), &mut block) == 1 && block.iter().all(|byte| *byte == 0xA5)
 }
 
 /// One of the rows of a tick is wrong.
@@ -96,9 +98,10 @@ fn pair_refused(rng: &mut Rng, input: &Input) -> bool {
 pub fn differ(bytes: &[u8], seed: u64, figures: &mut Figures) -> bool {
     let input = Input::of(bytes);
     let rng = &mut Rng::new(seed);
-    figures.other_lengths += 7;
+    figures.other_lengths += 9;
     !(reads_refused(rng, &input)
-        && write_refused(rng)
+        && write_refused(rng, 29, raw::write_state)
+        && write_refused(rng, 20, raw::write_tick)
         && ticks_refused(rng, &input)
         && prepared_refused(rng)
         && run_refused(rng, &input)

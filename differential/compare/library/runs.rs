@@ -41,19 +41,26 @@ impl Ran {
     }
 }
 
+/// The airframe of the input, or the reply that refuses its run: to the trace's length first, then
+/// to the block.
+fn accepted(input: &Input) -> Result<Airframe, u64> {
+    if !input.trace.len().is_multiple_of(TICK_BYTES) {
+        return Err(reply(LENGTH, 0));
+    }
+    let read = input.read();
+    let refused = reply_to(&read);
+    read.map_err(|_| refused)
+}
+
 /// The run of the input whose ticks ended as `flown`.
 fn expected(input: &Input, flown: &Flown) -> Ran {
-    let read = input.read();
-    if read.is_err() {
-        return Ran::refused(reply_to(&read), input);
-    }
-    if !input.trace.len().is_multiple_of(TICK_BYTES) {
-        return Ran::refused(reply(LENGTH, 0), input);
-    }
-    Ran {
-        reply: 0,
-        state: state_row(&flown.state),
-        accepted: flown.accepted,
+    match accepted(input) {
+        Ok(_) => Ran {
+            reply: 0,
+            state: state_row(&flown.state),
+            accepted: flown.accepted,
+        },
+        Err(reply) => Ran::refused(reply, input),
     }
 }
 
@@ -78,9 +85,9 @@ fn reflection(input: &Input, airframe: &Airframe) -> Ran {
 }
 
 fn expected_reflection(input: &Input) -> Ran {
-    match input.read() {
+    match accepted(input) {
         Ok(airframe) => reflection(input, &airframe),
-        refused => Ran::refused(reply_to(&refused), input),
+        Err(reply) => Ran::refused(reply, input),
     }
 }
 
@@ -108,11 +115,22 @@ fn pair_differs(input: &Input, ran: &Ran) -> bool {
     !ran.is(reply, &state, &found, counts[0]) || !second.is(reply, &reflected, &other, counts[1])
 }
 
+/// The input's state with two faults at once: a refused block, and a trace a byte short.
+fn faulty<'a>(input: &Input<'a>) -> Input<'a> {
+    Input {
+        airframe: &[0x20, 0],
+        state: input.state,
+        trace: &[0; TICK_BYTES - 1],
+    }
+}
+
 /// Whether the run or the mirrored pair differs from the ticks flown one by one.
 pub fn differ(input: &Input, flown: &Flown, figures: &mut Figures) -> bool {
-    let ran = expected(input, flown);
-    figures.runs += 1;
-    figures.pairs += 1;
     figures.run_ticks += (input.trace.len() / TICK_BYTES) as u64;
-    run_differs(input, &ran) || pair_differs(input, &ran)
+    [input, &faulty(input)].into_iter().any(|input| {
+        let ran = expected(input, flown);
+        figures.runs += 1;
+        figures.pairs += 1;
+        run_differs(input, &ran) || pair_differs(input, &ran)
+    })
 }

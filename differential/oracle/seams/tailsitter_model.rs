@@ -3,7 +3,7 @@
 use super::PropWash;
 
 impl PropWash {
-    /// The dynamic pressure the wake adds, in Pa.
+    /// `added` of module 5, in Pa.
     pub(crate) fn added(&self, thrust_n: f32, axial_mps: f32) -> f32 {
         self.added_pa(thrust_n, axial_mps)
     }

@@ -1,6 +1,7 @@
 -- `bench_c::bench_mirrored_pair` meets its contract: where both arrays fit, what is handed back is the pair from the state that was read. Assumes nothing.
 use Rattle.bench_c.specs.Library.{mirroredPair}
 use Rattle.bench_c.proofs.Lengths.{pair-fits}
+use Rattle.bench_c.proofs.Pair.{pair-mirrors, positive}
 use native.Mathlib.Omega.{arith}
 use mathlib.Core.Path.{_∙_, sym}
 use borrow.Author.Needs.{needs}
@@ -38,18 +39,18 @@ returns : tie.Need-returns
 unfolding mirroredPair
 returns c =
     let p = c .before .before .before .before .before .before .before .before .before .before .before in
+    let q = p .pair-by .ensures in
+    let x = p .before .read-airframe .ensures in
+    let f = p .before .before .flight-in .ensures in
     let i = p .before .before .before .before in
-    let e = sym (i .before .pair-fits .ensures) ∙ i .if1 .taken in (
-      simp (c .reply .ensures, p .pair-by .ensures .0, p .before .read-airframe .ensures, p .before .before .flight-in .ensures, e),
-      simp (c .before .before .before .before .before .before .before .put-end .ensures, p .pair-by .ensures .0, p .before .read-airframe .ensures, p .before .before .flight-in .ensures, e),
-      simp (c .before .before .before .put-end2 .ensures, p .pair-by .ensures .1, p .before .read-airframe .ensures, p .before .before .flight-in .ensures, e),
-      simp (p .pair-by .ensures .0, p .before .read-airframe .ensures, p .before .before .flight-in .ensures, e),
-      simp (p .pair-by .ensures .1, p .before .read-airframe .ensures, p .before .before .flight-in .ensures, e),
-    )
+    let e = sym (i .before .pair-fits .ensures) ∙ i .if1 .taken in
+    let one = c .before .before .before .before .before .before .before .put-end .ensures in
+    let two = c .before .before .before .put-end2 .ensures in
+    ((simp (c .reply .ensures, q .first, x, f, e), simp (one, q .first, x, f, e), simp (two, q .second, x, f, e), simp (q .first, x, f, e), simp (q .second, x, f, e)), λ z. pair-mirrors _ _ _ _ _ _ _ _ _ x f q one two (sym (c .reply .ensures) ∙ z))
 
 returns-2 : tie.Need-returns-2
 unfolding mirroredPair
-returns-2 c = let e = sym (c .before .pair-fits .ensures) ∙ c .if1 .left in (simp e, simp e, simp e, simp e, simp e)
+returns-2 c = let e = sym (c .before .pair-fits .ensures) ∙ c .if1 .left in ((simp e, simp e, simp e, simp e, simp e), λ z. absurd (positive 0 z))
 
 pub bench-mirrored-pair-spec : {M : Type 1} → statement M
 bench-mirrored-pair-spec =

@@ -1,10 +1,14 @@
 -- `bench_c::pair_by` meets its contract. Assumes nothing.
 use mathlib.Core.Path.{_∙_, sym}
 use borrow.Author.Tests.{eq-eqb, ne-eqb}
+use Rattle.bench_c.proofs.Pair.{ended-mirror, ended-number, positive}
 use Rattle.bench_c.specs.Library.{ranBy, reflectedBy}
 use borrow.Author.Needs.{needs}
 use Rattle.bench_c.proofs.pair_by.Statement.{statement}
 use Rattle.bench_c.proofs.pair_by.Tie as tie
+
+is-whole-requires : tie.Need-is-whole-requires
+is-whole-requires c κs = search needs
 
 number-requires : tie.Need-number-requires
 number-requires c κs = search needs
@@ -14,29 +18,44 @@ mirrored-pair-requires c κs = search needs
 
 returns : tie.Need-returns
 unfolding ranBy reflectedBy
-returns c = let e = eq-eqb _ _ (sym (c .before .before .number .ensures) ∙ c .before .if1 .taken) in (c .mirrored-pair .ensures .first ∙ simp e, c .mirrored-pair .ensures .second ∙ simp e)
+returns c =
+    let k = c .before .before .before in
+    let d = eq-eqb _ _ (sym (c .before .before .number .ensures) ∙ c .before .if2 .taken) in
+    let w = sym (k .before .is-whole .ensures) ∙ k .if1 .taken in
+    let p = c .mirrored-pair .ensures in
+    record { first = p .first ∙ simp (d, w); second = p .second ∙ simp (d, w); ends = p .ends; theorem = λ z. p .mirrored }
 
-ended-requires : tie.Need-ended-requires
-ended-requires c κs = search needs
-
-reflected-requires : tie.Need-reflected-requires
-reflected-requires c κs = search needs
-
-ended-requires-2 : tie.Need-ended-requires-2
-ended-requires-2 c κs = search needs
+ended-pair-requires : tie.Need-ended-pair-requires
+ended-pair-requires c κs = search needs
 
 returns-2 : tie.Need-returns-2
 unfolding ranBy reflectedBy
-returns-2 c = let s = c .before .before .before in let e = ne-eqb _ _ (λ z. s .if1 .left (s .before .number .ensures ∙ z)) in (simp (c .before .before .ended .ensures, e), simp (c .ended2 .ensures, c .before .reflected .ensures, e))
+returns-2 c =
+    let k = c .before .before .before in
+    let d = ne-eqb _ _ (λ z. c .before .if2 .left (c .before .before .number .ensures ∙ z)) in
+    let w = sym (k .before .is-whole .ensures) ∙ k .if1 .taken in
+    let p = c .ended-pair .ensures in
+    record { first = p .0 ∙ simp (d, w); second = p .1 ∙ simp (d, w); ends = ended-mirror _ _ _ (p .0) (p .1); theorem = λ z. absurd (c .before .if2 .left (c .before .before .number .ensures ∙ ended-number _ _ _ (p .0) z)) }
+
+ended-pair-requires-2 : tie.Need-ended-pair-requires-2
+ended-pair-requires-2 c κs = search needs
+
+returns-3 : tie.Need-returns-3
+unfolding ranBy reflectedBy
+returns-3 c =
+    let w = sym (c .before .before .is-whole .ensures) ∙ c .before .if1 .left in
+    let p = c .ended-pair2 .ensures in
+    record { first = p .0 ∙ simp w; second = p .1 ∙ simp w; ends = ended-mirror _ _ _ (p .0) (p .1); theorem = λ z. absurd (positive 0 (ended-number _ _ _ (p .0) z)) }
 
 pub pair-by-spec : {M : Type 1} → statement M
 pair-by-spec =
     tie.close
     (tie.spec
+    is-whole-requires
     number-requires
     mirrored-pair-requires
     returns
-    ended-requires
-    reflected-requires
-    ended-requires-2
-    returns-2)
+    ended-pair-requires
+    returns-2
+    ended-pair-requires-2
+    returns-3)

@@ -6,6 +6,9 @@ use borrow.Author.Needs.{needs}
 use Rattle.bench_c.proofs.ran_by.Statement.{statement}
 use Rattle.bench_c.proofs.ran_by.Tie as tie
 
+is-whole-requires : tie.Need-is-whole-requires
+is-whole-requires c κs = search needs
+
 number-requires : tie.Need-number-requires
 number-requires c κs = search needs
 
@@ -14,14 +17,35 @@ run-requires c κs = search needs
 
 returns : tie.Need-returns
 unfolding ranBy
-returns c = simp (c .run .ensures, eq-eqb _ _ (sym (c .before .before .number .ensures) ∙ c .before .if1 .taken))
+returns c =
+    let k = c .before .before .before in
+    simp (c .run .ensures, eq-eqb _ _ (sym (c .before .before .number .ensures) ∙ c .before .if2 .taken), sym (k .before .is-whole .ensures) ∙ k .if1 .taken)
 
 ended-requires : tie.Need-ended-requires
 ended-requires c κs = search needs
 
 returns-2 : tie.Need-returns-2
 unfolding ranBy
-returns-2 c = simp (c .ended .ensures, ne-eqb _ _ (λ e. c .before .if1 .left (c .before .before .number .ensures ∙ e)))
+returns-2 c =
+    let k = c .before .before .before in
+    simp (c .ended .ensures, ne-eqb _ _ (λ e. c .before .if2 .left (c .before .before .number .ensures ∙ e)), sym (k .before .is-whole .ensures) ∙ k .if1 .taken)
+
+ended-requires-2 : tie.Need-ended-requires-2
+ended-requires-2 c κs = search needs
+
+returns-3 : tie.Need-returns-3
+unfolding ranBy
+returns-3 c = simp (c .ended2 .ensures, sym (c .before .before .is-whole .ensures) ∙ c .before .if1 .left)
 
 pub ran-by-spec : {M : Type 1} → statement M
-ran-by-spec = tie.close (tie.spec number-requires run-requires returns ended-requires returns-2)
+ran-by-spec =
+    tie.close
+    (tie.spec
+    is-whole-requires
+    number-requires
+    run-requires
+    returns
+    ended-requires
+    returns-2
+    ended-requires-2
+    returns-3)

@@ -1,7 +1,8 @@
 -- `bench_c::ticked_prepared` meets its contract: the refused place of the numbers is the airframe's own. Assumes nothing.
+use Rattle.airframe.specs.Acceptance.{refusedPlace}
 use Rattle.wing.specs.Tick.{tickOf}
 use Rattle.ordered.proofs.Ordered.{some-eqb}
-use mathlib.Core.Path.{_∙_, sym}
+use mathlib.Core.Path.{_∙_, ap, sym}
 use borrow.Author.Needs.{needs}
 use Rattle.bench_c.proofs.ticked_prepared.Statement.{statement}
 use Rattle.bench_c.proofs.ticked_prepared.Tie as tie
@@ -13,11 +14,10 @@ airframe-in-requires : tie.Need-airframe-in-requires
 airframe-in-requires c κs = search needs
 
 tick-accepted-requires : tie.Need-tick-accepted-requires
-tick-accepted-requires c κs = search needs
+tick-accepted-requires c κs = ap refusedPlace (c .airframe-in .ensures) ∙ sym (c .before .before .refused-place .ensures) ∙ c .before .if1 .taken
 
 returns : tie.Need-returns
-unfolding tickOf
-returns c = simp (c .tick-accepted .ensures, c .before .airframe-in .ensures, sym (c .before .before .before .refused-place .ensures) ∙ c .before .before .if1 .taken)
+returns c = simp (c .tick-accepted .ensures, c .before .airframe-in .ensures)
 
 refused-requires : tie.Need-refused-requires
 refused-requires c κs = search needs

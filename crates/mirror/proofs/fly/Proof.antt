@@ -5,10 +5,10 @@ use Rattle.mirror.proofs.fly.Statement.{statement}
 use Rattle.mirror.proofs.fly.Tie as tie
 
 abbrev Inv-loop : tie.InvT-loop
-Inv-loop a ticks₀ out₀ p₀ turns₀ ticks out p turns = p .at ≤ 65536
+Inv-loop a input name ticks₀ out₀ p₀ turns₀ t12 ticks out p turns = input .named ≤ 65536
 
 abbrev μ-loop : tie.MeasureT-loop
-μ-loop a ticks₀ out₀ p₀ turns₀ ticks out p turns = turns
+μ-loop a input name ticks₀ out₀ p₀ turns₀ t12 ticks out p turns = turns
 
 large-buffer-requires : tie.Need-large-buffer-requires Inv-loop μ-loop
 large-buffer-requires c κs = search needs
@@ -28,14 +28,20 @@ read-ticks-requires c κs = search needs
 fly-some-requires : tie.Need-fly-some-requires Inv-loop μ-loop
 fly-some-requires c κs = search needs
 
-ended-requires : tie.Need-ended-requires Inv-loop μ-loop
-ended-requires c κs = search needs
+put-end-requires : tie.Need-put-end-requires Inv-loop μ-loop
+put-end-requires c κs = search needs
 
-summary-requires : tie.Need-summary-requires Inv-loop μ-loop
-summary-requires c κs = search needs
+slice-aggregate-turn : tie.Need-slice-aggregate-turn Inv-loop μ-loop
+slice-aggregate-turn c = search needs
+
+turn-requires : tie.Need-turn-requires Inv-loop μ-loop
+turn-requires c κs = search needs
 
 returns : tie.Need-returns Inv-loop μ-loop
 returns c = search needs
+
+returns-2 : tie.Need-returns-2 Inv-loop μ-loop
+returns-2 c = search needs
 
 sub-turns : tie.Need-sub-turns Inv-loop μ-loop
 sub-turns c = search needs
@@ -46,8 +52,8 @@ loop-less c = search needs
 loop-again : tie.Need-loop-again Inv-loop μ-loop
 loop-again c = search needs
 
-returns-2 : tie.Need-returns-2 Inv-loop μ-loop
-returns-2 c = search needs
+returns-3 : tie.Need-returns-3 Inv-loop μ-loop
+returns-3 c = search needs
 
 pub fly-spec : {M : Type 1} → statement M
 fly-spec =
@@ -61,10 +67,12 @@ fly-spec =
     loop-holds
     read-ticks-requires
     fly-some-requires
-    ended-requires
-    summary-requires
+    put-end-requires
+    slice-aggregate-turn
+    turn-requires
     returns
+    returns-2
     sub-turns
     loop-less
     loop-again
-    returns-2)
+    returns-3)

@@ -43,7 +43,7 @@ begin-after-requires : tie.Need-begin-after-requires Inv-loop μ-loop
 begin-after-requires c κs = c .before .before .loop .inv .5
 
 tick-inside-requires : tie.Need-tick-inside-requires Inv-loop μ-loop
-tick-inside-requires c κs = (c .before .before .before .loop .inv .4, c .begin-after .ensures .0)
+tick-inside-requires c κs = (c .before .before .before .before .before .before .pre .0, (c .before .before .before .loop .inv .4, c .begin-after .ensures .0))
 
 one-if-done-requires : tie.Need-one-if-done-requires Inv-loop μ-loop
 one-if-done-requires c κs = search needs
@@ -68,10 +68,10 @@ loop-again c =
       search needs,
       search needs,
       search needs,
-      ap (left (a .reflect) (a .a) (a .trace .now) (i + 1) _) (progress (a .a) p _ (t .tick-at .result) (k .tick-inside .result) (c .before .one-if-done .result) (c .before .before .before .before .before .before .before .before .before .before .pre .0) (t .tick-at .ensures) (k .tick-inside .ensures) (c .before .one-if-done .ensures .0))
+      ap (left (a .reflect) (a .a) (a .trace .now) (i + 1) _) (progress (a .a) p _ (t .tick-at .result) (k .tick-inside .result) (c .before .one-if-done .result) (t .tick-at .ensures) (k .tick-inside .ensures) (c .before .one-if-done .ensures .0))
           ∙ sym (turn (a .reflect) (a .a) (a .trace .now) i _ p (c .before .before .before .before .before .before .loop-test .taken))
           ∙ s .loop .inv .3,
-      ap (λ (x : Ticked). isInside (x .flight)) (k .tick-inside .ensures) ∙ stays-inside (a .a) (s .loop .flight) (t .tick-at .result) (s .loop .inv .4),
+      ap (λ (x : Ticked). isInside (x .flight)) (k .tick-inside .ensures) ∙ stays-inside (a .a) (s .loop .flight) (t .tick-at .result) (c .before .before .before .before .before .before .before .before .before .before .pre .0) (s .loop .inv .4),
       c .before .before .before .before .begin-after .ensures .1,
       s .loop .inv .6,
     )

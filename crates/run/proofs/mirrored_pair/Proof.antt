@@ -10,7 +10,7 @@ use Rattle.float.proofs.Held.{field-held}
 use Rattle.float.specs.Bytes.{byteAt}
 use Rattle.wing.proofs.Running.{Held}
 use Rattle.run.proofs.Bytes.{reflected-run, reflected-ticks}
-use Rattle.run.proofs.Mirror.{mirrored}
+use Rattle.run.proofs.Mirror.{mirrored, ran-mirror}
 use Rattle.run.proofs.Turns.{plain-track, reflected-track}
 use Rattle.run.specs.Contracts.{trackRan}
 use Rattle.run.specs.Run.{ranOf, ranOver, ticksOf}
@@ -42,11 +42,13 @@ returns c =
     let ts = ticksOf s in
     let bytes : (i : ℕ) → byteAt s i < 256 = λ i. omega (arith, k .shared-slice-known .given i) in
     let second : c .run-track2 .result ≡ ranOver (reflectAirframe (a .a)) (reflectFlight (a .f)) s (map reflectTick ts) = c .run-track2 .ensures ∙ rw (c .before .before .reflected .ensures, c .before .reflected2 .ensures, reflected-track ts) in
+    let first : c .before .before .before .run-track .result ≡ ranOver (a .a) (a .f) s ts = c .before .before .before .run-track .ensures ∙ ap (ranOver (a .a) (a .f) s) (plain-track ts) in
     record {
-      first = c .before .before .before .run-track .ensures ∙ ap (ranOver (a .a) (a .f) s) (plain-track ts);
+      first = first;
       second = second ∙ sym (reflected-run (reflectAirframe (a .a)) (reflectFlight (a .f)) s bytes);
       ticks = reflected-ticks s bytes;
-      mirrored = λ e o. mirrored (a .a) (a .f) ts e o (held (k .before));
+      ends = rw (first, second) (ran-mirror (a .a) (a .f) s ts);
+      mirrored = λ e o us. mirrored (a .a) (a .f) us e o (held (k .before));
     }
 
 pub mirrored-pair-spec : {M : Type 1} → statement M

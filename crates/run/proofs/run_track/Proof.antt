@@ -2,7 +2,6 @@
 use Rattle.run.specs.Contracts.{reflectedIf, trackFlown, trackRan}
 use Rattle.run.specs.Run.{ranOver, runOf, ticksOf}
 use Rattle.run.proofs.Turns.{outside-run, refused-run}
-use Rattle.ordered.proofs.Ordered.{some-eqb}
 use Rattle.flight.specs.Envelope.{isInside}
 use Rattle.airframe.specs.Acceptance.{refusedPlace}
 use mathlib.Core.Path.{_∙_, _≡_, sym}
@@ -12,12 +11,8 @@ use borrow.Author.Needs.{needs}
 use Rattle.run.proofs.run_track.Statement.{statement}
 use Rattle.run.proofs.run_track.Tie as tie
 
-ended-requires : tie.Need-ended-requires
-ended-requires c κs = search needs
-
-returns : tie.Need-returns
-unfolding trackRan ranOver
-returns c = rw (some-eqb _ (c .before .if1 .taken)) (c .ended .ensures)
+is-whole-requires : tie.Need-is-whole-requires
+is-whole-requires c κs = search needs
 
 refused-place-requires : tie.Need-refused-place-requires
 refused-place-requires c κs = search needs
@@ -28,9 +23,23 @@ is-inside-requires c κs = search needs
 fly-all-requires : tie.Need-fly-all-requires
 fly-all-requires c κs = (sym (c .before .before .before .refused-place .ensures) ∙ c .before .before .if2 .taken, sym (c .before .is-inside .ensures) ∙ c .if3 .taken)
 
-returns-2 : tie.Need-returns-2
+returns : tie.Need-returns
 unfolding trackRan ranOver trackFlown
-returns-2 c = rw (c .before .before .before .before .before .if1 .left) (c .fly-all .ensures)
+returns c =
+    let k = c .before .before .before .before .before in
+    rw (sym (k .before .is-whole .ensures) ∙ k .if1 .taken) (c .fly-all .ensures)
+
+ended-requires : tie.Need-ended-requires
+ended-requires c κs = search needs
+
+returns-2 : tie.Need-returns-2
+unfolding trackRan ranOver runOf
+returns-2 c =
+    let k = c .before .before .before .before .before in
+    let a = k .before .before .before .args in
+    let e : refusedPlace (a .a) ≡ 0 = sym (c .before .before .before .before .refused-place .ensures) ∙ c .before .before .before .if2 .taken in
+    let o : isInside (a .f) ≡ false = sym (c .before .before .is-inside .ensures) ∙ c .before .if3 .left in
+    rw (sym (k .before .is-whole .ensures) ∙ k .if1 .taken, outside-run (a .a) (record { flight = a .f; accepted = 0 }) (map (reflectedIf (a .reflect)) (ticksOf (a .trace .now))) e o) (c .ended .ensures)
 
 ended-requires-2 : tie.Need-ended-requires-2
 ended-requires-2 c κs = search needs
@@ -38,30 +47,28 @@ ended-requires-2 c κs = search needs
 returns-3 : tie.Need-returns-3
 unfolding trackRan ranOver runOf
 returns-3 c =
-    let a = c .before .before .before .before .before .before .before .args in
-    let e : refusedPlace (a .a) ≡ 0 = sym (c .before .before .before .before .refused-place .ensures) ∙ c .before .before .before .if2 .taken in
-    let o : isInside (a .f) ≡ false = sym (c .before .before .is-inside .ensures) ∙ c .before .if3 .left in
-    rw (c .before .before .before .before .before .if1 .left, outside-run (a .a) (record { flight = a .f; accepted = 0 }) (map (reflectedIf (a .reflect)) (ticksOf (a .trace .now))) e o) (c .ended2 .ensures)
+    let k = c .before .before .before in
+    let a = k .before .before .before .args in
+    let n : refusedPlace (a .a) ≡ 0 → ⊥ = λ e. c .before .if2 .left (c .before .before .refused-place .ensures ∙ e) in
+    rw (sym (k .before .is-whole .ensures) ∙ k .if1 .taken, refused-run (a .a) (record { flight = a .f; accepted = 0 }) (map (reflectedIf (a .reflect)) (ticksOf (a .trace .now))) n) (c .ended2 .ensures)
 
 ended-requires-3 : tie.Need-ended-requires-3
 ended-requires-3 c κs = search needs
 
 returns-4 : tie.Need-returns-4
-unfolding trackRan ranOver runOf
-returns-4 c =
-    let a = c .before .before .before .before .before .args in
-    let n : refusedPlace (a .a) ≡ 0 → ⊥ = λ e. c .before .if2 .left (c .before .before .refused-place .ensures ∙ e) in
-    rw (c .before .before .before .if1 .left, refused-run (a .a) (record { flight = a .f; accepted = 0 }) (map (reflectedIf (a .reflect)) (ticksOf (a .trace .now))) n) (c .ended3 .ensures)
+unfolding trackRan ranOver
+returns-4 c = rw (sym (c .before .before .is-whole .ensures) ∙ c .before .if1 .left) (c .ended3 .ensures)
 
 pub run-track-spec : {M : Type 1} → statement M
 run-track-spec =
     tie.close
     (tie.spec
-    ended-requires
-    returns
+    is-whole-requires
     refused-place-requires
     is-inside-requires
     fly-all-requires
+    returns
+    ended-requires
     returns-2
     ended-requires-2
     returns-3

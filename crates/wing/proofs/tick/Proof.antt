@@ -16,11 +16,10 @@ refused-place-requires : tie.Need-refused-place-requires
 refused-place-requires c κs = search needs
 
 tick-accepted-requires : tie.Need-tick-accepted-requires
-tick-accepted-requires c κs = search needs
+tick-accepted-requires c κs = sym (c .before .refused-place .ensures) ∙ c .if1 .taken
 
 returns : tie.Need-returns
-unfolding tickOf
-returns c = rw (sym (c .before .before .refused-place .ensures) ∙ c .before .if1 .taken) (c .tick-accepted .ensures)
+returns c = search needs
 
 refused-requires : tie.Need-refused-requires
 refused-requires c κs = search needs

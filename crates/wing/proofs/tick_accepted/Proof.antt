@@ -1,5 +1,5 @@
 -- `wing::tick_accepted` meets its contract. Assumes nothing.
-use Rattle.wing.specs.Tick.{acceptedTick}
+use Rattle.wing.specs.Tick.{acceptedTick, tickOf}
 use mathlib.Core.Path.{_∙_, sym}
 use borrow.Author.Needs.{needs}
 use Rattle.wing.proofs.tick_accepted.Statement.{statement}
@@ -12,7 +12,7 @@ begin-requires : tie.Need-begin-requires
 begin-requires c κs = search needs
 
 tick-inside-requires : tie.Need-tick-inside-requires
-tick-inside-requires c κs = (sym (c .before .before .is-inside .ensures) ∙ c .before .if1 .taken, c .begin .ensures)
+tick-inside-requires c κs = (c .before .before .before .pre, (sym (c .before .before .is-inside .ensures) ∙ c .before .if1 .taken, c .begin .ensures))
 
 returns : tie.Need-returns
 returns c = search needs
@@ -21,8 +21,8 @@ refused-requires : tie.Need-refused-requires
 refused-requires c κs = search needs
 
 returns-2 : tie.Need-returns-2
-unfolding acceptedTick
-returns-2 c = simp (c .refused .ensures, sym (c .before .before .is-inside .ensures) ∙ c .before .if1 .left)
+unfolding tickOf acceptedTick
+returns-2 c = simp (c .refused .ensures, c .before .before .before .pre, sym (c .before .before .is-inside .ensures) ∙ c .before .if1 .left)
 
 pub tick-accepted-spec : {M : Type 1} → statement M
 tick-accepted-spec =

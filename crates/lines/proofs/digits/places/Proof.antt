@@ -1,11 +1,16 @@
 -- `lines::digits::places` meets its contract. Assumes nothing.
-use Prim.Native.Nat.{_-_, _≤_}
+use Prim.Native.Nat.{_+_, _-_, _/_, _≤_, suc, ℕ}
+use mathlib.Core.Path.{_≡_, ap}
+use native.Mathlib.Omega.{arith}
+use borrow.Author.Tests.{le-ltb, lt-ltb}
 use borrow.Author.Needs.{needs}
+use Rattle.lines.specs.Text.{placesOf}
+use Rattle.lines.proofs.Texts.{places-last, places-more}
 use Rattle.lines.proofs.digits.places.Statement.{statement}
 use Rattle.lines.proofs.digits.places.Tie as tie
 
 abbrev Inv-loop : tie.InvT-loop
-Inv-loop n rest₀ k₀ rest k = k ≤ 20
+Inv-loop n rest₀ k₀ rest k = (1 ≤ k) × (k ≤ 20) × (placesOf 19 n ≡ k - 1 + placesOf (20 - k) rest)
 
 abbrev μ-loop : tie.MeasureT-loop
 μ-loop n rest₀ k₀ rest k = 20 - k
@@ -14,7 +19,10 @@ loop-holds : tie.Need-loop-holds Inv-loop μ-loop
 loop-holds c = search needs
 
 returns : tie.Need-returns Inv-loop μ-loop
-returns c = search needs
+returns c =
+    let l = c .before .before .loop in
+    let last : placesOf (20 - l .k) (l .rest) ≡ 1 = places-last (20 - l .k) (l .rest) (lt-ltb _ _ (c .if1 .taken)) in
+    (omega (arith, last, l .inv .2), omega arith)
 
 add-k : tie.Need-add-k Inv-loop μ-loop
 add-k c = search needs
@@ -23,10 +31,19 @@ loop-less : tie.Need-loop-less Inv-loop μ-loop
 loop-less c = search needs
 
 loop-again : tie.Need-loop-again Inv-loop μ-loop
-loop-again c = search needs
+loop-again c =
+    let l = c .before .before .loop in
+    let more : placesOf (20 - l .k) (l .rest) ≡ suc (placesOf (20 - (l .k + 1)) (l .rest / 10)) =
+    places-more (20 - l .k) (20 - (l .k + 1)) (l .rest) (omega arith) (le-ltb _ _ (c .if1 .left)) in
+    (omega arith, omega arith, omega (arith, more, l .inv .2))
 
 returns-2 : tie.Need-returns-2 Inv-loop μ-loop
-returns-2 c = search needs
+unfolding placesOf
+returns-2 c =
+    let l = c .before .loop in
+    let none : 20 - l .k ≡ 0 = omega arith in
+    let last : placesOf (20 - l .k) (l .rest) ≡ 1 = ap (λ (m : ℕ). placesOf m (l .rest)) none in
+    (omega (arith, last, l .inv .2), omega arith)
 
 pub places-spec : {M : Type 1} → statement M
 places-spec =

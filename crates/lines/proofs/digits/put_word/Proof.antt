@@ -1,62 +1,44 @@
 -- `lines::digits::put_word` meets its contract. Assumes nothing.
-use Prim.Native.Nat.{_≤_}
 use borrow.Author.Needs.{needs}
+use mathlib.Core.Path.{_∙_, ap}
+use native.Mathlib.Omega.{arith}
+use Rattle.lines.specs.Text.{digitsOf, wordText}
+use Rattle.lines.proofs.Texts.{as-byte, as-digits, same-text, then}
 use Rattle.lines.proofs.digits.put_word.Statement.{statement}
 use Rattle.lines.proofs.digits.put_word.Tie as tie
 
-abbrev Inv-loop : tie.InvT-loop
-Inv-loop out₀ at x rest₀ i₀ out rest i = i ≤ 8
+put-byte-requires : tie.Need-put-byte-requires
+put-byte-requires c κs = search needs
 
-abbrev μ-loop : tie.MeasureT-loop
-μ-loop out₀ at x rest₀ i₀ out rest i = i
-
-element-write-out : tie.Need-element-write-out Inv-loop μ-loop
-element-write-out c = search needs
-
-shown-requires : tie.Need-shown-requires Inv-loop μ-loop
+shown-requires : tie.Need-shown-requires
 shown-requires c κs = search needs
 
-loop-holds : tie.Need-loop-holds Inv-loop μ-loop
-loop-holds c = search needs
+wide-requires : tie.Need-wide-requires
+wide-requires c κs = search needs
 
-glyph-requires : tie.Need-glyph-requires Inv-loop μ-loop
-glyph-requires c κs = search needs
+put-digits-requires : tie.Need-put-digits-requires
+put-digits-requires c κs = search needs
 
-add-out : tie.Need-add-out Inv-loop μ-loop
-add-out c = search needs
-
-element-write-out-2 : tie.Need-element-write-out-2 Inv-loop μ-loop
-element-write-out-2 c = search needs
-
-sub-i : tie.Need-sub-i Inv-loop μ-loop
-sub-i c = search needs
-
-loop-less : tie.Need-loop-less Inv-loop μ-loop
-loop-less c = search needs
-
-loop-again : tie.Need-loop-again Inv-loop μ-loop
-loop-again c = search needs
-
-add-result : tie.Need-add-result Inv-loop μ-loop
+add-result : tie.Need-add-result
 add-result c = search needs
 
-returns : tie.Need-returns Inv-loop μ-loop
-returns c = search needs
+returns : tie.Need-returns
+unfolding wordText
+returns c =
+    let b = c .before .before .before .before .put-byte in
+    let bits = c .before .wide in
+    let digits =
+    same-text (ap (digitsOf 16 8) (bits .ensures ∙ c .before .before .shown .ensures)) (as-digits _ _ 16 8 (bits .result) _ (c .put-digits .ensures)) in
+    let all = then (as-byte _ _ _ _ _ (b .ensures)) digits in
+    (all .page, (omega (arith, all .next, b .ensures .1), search needs))
 
 pub put-word-spec : {M : Type 1} → statement M
 put-word-spec =
     tie.close
     (tie.spec
-    Inv-loop
-    μ-loop
-    element-write-out
+    put-byte-requires
     shown-requires
-    loop-holds
-    glyph-requires
-    add-out
-    element-write-out-2
-    sub-i
-    loop-less
-    loop-again
+    wide-requires
+    put-digits-requires
     add-result
     returns)

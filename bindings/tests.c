@@ -1,0 +1,288 @@
+/* The header's own code on a sample flight: tests FILE. Words and lengths, and the guarded forms from every float environment:
+ * the bits they give are those of the plain calls in the default one, and the caller's control word comes back. */
+#include <stdio.h>
+#include <string.h>
+
+#include "bench.h"
+
+enum { MOST = 1 << 20, TICKS = 20 };
+static uint8_t bytes[MOST];
+static int failures;
+
+static void check(int holds, const char *what, const char *where)
+{
+    if (holds)
+        return;
+    failures++;
+    fprintf(stderr, "tests: %s: %s\n", where, what);
+}
+
+/* The sample's parts: airframe block, state block, the first ticks of its trace. */
+struct sample {
+    uint8_t *airframe, *state, *trace;
+    size_t airframe_bytes, trace_bytes;
+};
+
+static int read_sample(const char *name, struct sample *s)
+{
+    FILE *file = fopen(name, "rb");
+    size_t length = file ? fread(bytes, 1, MOST, file) : 0;
+    if (file)
+        fclose(file);
+    s->airframe = bytes;
+    s->airframe_bytes = bench_airframe_length(bytes);
+    s->state = bytes + s->airframe_bytes;
+    s->trace = s->state + BENCH_STATE_BYTES;
+    s->trace_bytes = TICKS * BENCH_TICK_BYTES;
+    return length >= s->airframe_bytes + BENCH_STATE_BYTES + s->trace_bytes;
+}
+
+/* Puts a number into the block at `at`, counted in numbers. */
+static void put(uint8_t *block, size_t at, uint32_t bits)
+{
+    for (size_t byte = 0; byte < 4; byte++)
+        block[4 * at + byte] = (uint8_t)(bits >> (24 - 8 * byte));
+}
+
+/* Makes the sample tell environments apart: a row factor whose products are rounded, two servos without command, of which one
+ * is subnormal and one becomes so, and commands that are subnormal and NaN. */
+static void make_telling(struct sample *s)
+{
+    put(s->state - 4, 0, 0x3E99999A);
+    put(s->state, BENCH_STATE_SERVOS, 0x012345E5);
+    put(s->state, BENCH_STATE_SERVOS + 1, 0x00013520);
+    put(s->trace, BENCH_TICK_SERVOS, 0);
+    put(s->trace, BENCH_TICK_SERVOS + 1, 0);
+    put(s->trace, BENCH_TICK_SERVOS + 6, 0x00013520);
+    put(s->trace, BENCH_TICK_SERVOS + 7, 0x7FC00001);
+}
+
+/* ---- Words ---- */
+
+static void test_words(void)
+{
+    static const uint8_t plain[2] = {0x10, 0}, wash[2] = {0x12, 2}, full[2] = {0x10, 16}, over[2] = {0x10, 17};
+    check(strcmp(bench_answer_text(BENCH_DONE), "done") == 0, "answer 0", "words");
+    check(strcmp(bench_answer_text(BENCH_DEPARTURE), "the next state would be outside the envelope (departure)") == 0, "answer 9",
+          "words");
+    check(strcmp(bench_answer_text(10), "unknown answer") == 0, "answer 10", "words");
+    check(BENCH_PLACE_MASS_KG == 1 && strcmp(bench_place_name(1), "mass_kg") == 0, "place 1", "words");
+    check(BENCH_PLACE_DAMPING_FRACTION == 48 && BENCH_PLACE_SURFACE_WEIGHT == 51, "the last places", "words");
+    check(strcmp(bench_place_name(0), "unknown place") == 0, "place 0", "words");
+    check(strcmp(bench_place_name(52), "unknown place") == 0, "place 52", "words");
+    check(bench_airframe_length(plain) == 166, "no row", "lengths");
+    check(bench_airframe_length(wash) == 166 + 28 + 2 * 13, "a wash and two rows", "lengths");
+    check(bench_airframe_length(full) == 166 + 16 * 13, "16 rows", "lengths");
+    check(bench_airframe_length(over) == 0, "17 rows", "lengths");
+}
+
+/* ---- The guard ---- */
+
+enum { A = BENCH_AIRFRAME_NUMBERS, S = BENCH_STATE_NUMBERS, T = BENCH_TICK_NUMBERS, R = BENCH_REPORT_NUMBERS };
+
+/* All calls, in their plain or in their guarded form. */
+struct calls {
+    uint64_t (*read_airframe)(const uint8_t *, size_t);
+    uint64_t (*prepare)(const uint8_t *, size_t, float *, size_t);
+    uint64_t (*read_state)(const uint8_t *, size_t, float *, size_t);
+    uint64_t (*write_state)(const float *, size_t, uint8_t *, size_t);
+    uint64_t (*read_tick)(const uint8_t *, size_t, float *, size_t);
+    uint64_t (*write_tick)(const float *, size_t, uint8_t *, size_t);
+    uint64_t (*tick)(const uint8_t *, size_t, float *, size_t, const float *, size_t, float *, size_t);
+    uint64_t (*tick_prepared)(const float *, size_t, float *, size_t, const float *, size_t, float *, size_t);
+    uint64_t (*run)(const uint8_t *, size_t, float *, size_t, const uint8_t *, size_t, uint64_t *);
+    uint64_t (*mirrored_pair)(const uint8_t *, size_t, float *, size_t, float *, size_t, const uint8_t *, size_t, uint64_t *,
+                              uint64_t *);
+    float (*sqrtf)(float), (*expf)(float), (*sinf)(float), (*cosf)(float), (*asinf)(float), (*atan2f)(float, float);
+};
+
+#define CALLS(FORM)                                                                                                         \
+    {                                                                                                                       \
+        FORM##read_airframe, FORM##prepare, FORM##read_state, FORM##write_state, FORM##read_tick, FORM##write_tick,         \
+            FORM##tick, FORM##tick_prepared, FORM##run, FORM##mirrored_pair, FORM##sqrtf, FORM##expf, FORM##sinf,           \
+            FORM##cosf, FORM##asinf, FORM##atan2f                                                                           \
+    }
+static const struct calls plain = CALLS(bench_), guarded = CALLS(bench_guarded_);
+
+/* What all calls give on the sample. */
+struct results {
+    uint64_t replies[10], accepted[3];
+    float airframe[A], tick[T], start[S], by_block[S], prepared[S], report[2][R], ran[S], pair[2][S], functions[6];
+    uint8_t state_block[BENCH_STATE_BYTES], tick_block[BENCH_TICK_BYTES];
+};
+
+static void read_blocks(const struct calls *call, const struct sample *s, struct results *r)
+{
+    r->replies[0] = call->read_airframe(s->airframe, s->airframe_bytes);
+    r->replies[1] = call->prepare(s->airframe, s->airframe_bytes, r->airframe, A);
+    r->replies[2] = call->read_state(s->state, BENCH_STATE_BYTES, r->start, S);
+    r->replies[3] = call->read_tick(s->trace, BENCH_TICK_BYTES, r->tick, T);
+}
+
+static void tick_both(const struct calls *call, const struct sample *s, struct results *r)
+{
+    memcpy(r->by_block, r->start, sizeof r->start);
+    memcpy(r->prepared, r->start, sizeof r->start);
+    r->replies[4] = call->tick(s->airframe, s->airframe_bytes, r->by_block, S, r->tick, T, r->report[0], R);
+    r->replies[5] = call->tick_prepared(r->airframe, A, r->prepared, S, r->tick, T, r->report[1], R);
+}
+
+static void run_both(const struct calls *call, const struct sample *s, struct results *r)
+{
+    memcpy(r->ran, r->start, sizeof r->start);
+    memcpy(r->pair[0], r->start, sizeof r->start);
+    r->replies[6] = call->run(s->airframe, s->airframe_bytes, r->ran, S, s->trace, s->trace_bytes, &r->accepted[0]);
+    r->replies[7] = call->mirrored_pair(s->airframe, s->airframe_bytes, r->pair[0], S, r->pair[1], S, s->trace, s->trace_bytes,
+                                        &r->accepted[1], &r->accepted[2]);
+}
+
+static void write_blocks(const struct calls *call, struct results *r)
+{
+    r->replies[8] = call->write_state(r->prepared, S, r->state_block, BENCH_STATE_BYTES);
+    r->replies[9] = call->write_tick(r->tick, T, r->tick_block, BENCH_TICK_BYTES);
+}
+
+static void compute(const struct calls *call, struct results *r)
+{
+    r->functions[0] = call->sqrtf(2.0f);
+    r->functions[1] = call->expf(1.0f);
+    r->functions[2] = call->sinf(1.0f);
+    r->functions[3] = call->cosf(1.0f);
+    r->functions[4] = call->asinf(0.3f);
+    r->functions[5] = call->atan2f(1.0f, 3.0f);
+}
+
+static void make_all(const struct calls *call, const struct sample *s, struct results *r)
+{
+    memset(r, 0, sizeof *r);
+    read_blocks(call, s, r);
+    tick_both(call, s, r);
+    run_both(call, s, r);
+    write_blocks(call, r);
+    compute(call, r);
+}
+
+static int same(const struct results *a, const struct results *b)
+{
+    return memcmp(a, b, sizeof *a) == 0;
+}
+
+static int all_done(const struct results *r)
+{
+    for (int at = 0; at < 10; at++)
+        if (r->replies[at] != BENCH_DONE)
+            return 0;
+    return r->accepted[0] == TICKS && r->accepted[1] == TICKS && r->accepted[2] == TICKS;
+}
+
+/* Bits of the control word. */
+enum { UP = 0x4000, DOWN = 0x2000, TO_ZERO = 0x6000, FTZ = 0x8000, DAZ = 0x40, MASKS = 0x1F80, A_FLAG = 0x20 };
+
+static const struct environment {
+    const char *name;
+    unsigned control;
+} environments[] = {
+    {"rounding up", MASKS | UP},
+    {"rounding down", MASKS | DOWN},
+    {"rounding to zero", MASKS | TO_ZERO},
+    {"FTZ", MASKS | FTZ},
+    {"DAZ", MASKS | DAZ},
+    {"FTZ and DAZ", MASKS | FTZ | DAZ},
+    {"rounding up, FTZ and DAZ", MASKS | UP | FTZ | DAZ},
+    {"rounding up, a flag raised", MASKS | UP | A_FLAG},
+    {"all exceptions unmasked", 0},
+    {"all exceptions unmasked, a flag raised", A_FLAG},
+};
+
+/* The results of all calls made in an environment, and the control word after them. */
+static unsigned make_in(unsigned control, const struct calls *call, const struct sample *s, struct results *r)
+{
+    unsigned was = _mm_getcsr(), after;
+    _mm_setcsr(control);
+    make_all(call, s, r);
+    after = _mm_getcsr();
+    _mm_setcsr(was);
+    return after;
+}
+
+/* The plain calls must give other bits, else this would show nothing; with unmasked exceptions they would end the process. */
+static void test_environment(const struct environment *e, const struct sample *s, const struct results *expected)
+{
+    struct results found;
+    unsigned after = make_in(e->control, &guarded, s, &found);
+    check(same(&found, expected), "a guarded call gives other bits", e->name);
+    check(after == e->control, "a guarded call changes the control word", e->name);
+    if (e->control & MASKS) {
+        make_in(e->control, &plain, s, &found);
+        check(!same(&found, expected), "the plain calls give the same bits", e->name);
+    }
+}
+
+/* The control word after the plain calls has the flags that they raised. */
+static void test_default(const struct sample *s, const struct results *expected, unsigned after_plain)
+{
+    struct results found;
+    unsigned after = make_in(BENCH_CONTROL_DEFAULT, &guarded, s, &found);
+    check(all_done(expected), "a call is refused", "the default");
+    check(same(&found, expected), "a guarded call gives other bits", "the default");
+    check(bench_control_is_default(after), "a guarded call changes the control word", "the default");
+    check(after == after_plain && after != BENCH_CONTROL_DEFAULT, "a guarded call leaves other flags", "the default");
+}
+
+static void test_telling(unsigned control, int is_default)
+{
+    unsigned was = _mm_getcsr();
+    int told;
+    _mm_setcsr(control);
+    told = bench_float_environment_is_default();
+    _mm_setcsr(was);
+    check(told == is_default, "the environment is taken for another", "bench_float_environment_is_default");
+}
+
+/* The caller's own sum before a guarded call and difference after it; neither has to wait for the call. */
+static __attribute__((noinline)) float around_call(float a, float b, float *sum, float *difference)
+{
+    float before = a + b, root = bench_guarded_sqrtf(a);
+    *sum = before;
+    *difference = a - b;
+    return root;
+}
+
+/* Rounded up, 1 + 2^-30 is the next float above 1, and 1 - 2^-30 is 1. */
+static void test_own_sums(void)
+{
+    static volatile float one = 1.0f, little = 0x1p-30f;
+    unsigned was = _mm_getcsr();
+    float root, sum, difference;
+    _mm_setcsr(MASKS | UP);
+    root = around_call(one, little, &sum, &difference);
+    _mm_setcsr(was);
+    check(sum == 0x1.000002p0f && difference == 1.0f && root == 1.0f, "the caller's sums are rounded otherwise", "rounding up");
+}
+
+static void test_guard(const struct sample *s)
+{
+    struct results expected;
+    unsigned after_plain = make_in(BENCH_CONTROL_DEFAULT, &plain, s, &expected);
+    test_default(s, &expected, after_plain);
+    test_telling(BENCH_CONTROL_DEFAULT, 1);
+    test_telling(BENCH_CONTROL_DEFAULT | BENCH_CONTROL_FLAGS, 1);
+    for (size_t at = 0; at < sizeof environments / sizeof *environments; at++) {
+        test_environment(&environments[at], s, &expected);
+        test_telling(environments[at].control, 0);
+    }
+    test_own_sums();
+}
+
+int main(int count, char **arguments)
+{
+    struct sample sample;
+    if (count != 2 || !read_sample(arguments[1], &sample)) {
+        fprintf(stderr, "usage: tests FILE, a flight of %d ticks or more\n", TICKS);
+        return 1;
+    }
+    make_telling(&sample);
+    test_words();
+    test_guard(&sample);
+    return failures != 0;
+}

@@ -1,0 +1,91 @@
+-- Tick calls of the library, one after another, each fed the array that the last one left: their replies, reports and states are those
+-- of the definition's calls, so that demand 3 speaks of calls that were made. Assumes nothing.
+use Prim.Native.Nat.{ℕ}
+use borrow.Author.Tests.{eq-eqb}
+use lib.Dec.{eqb}
+use lib.Ieee.{Float}
+use lib.ListN.{length}
+use mathlib.Core.Bool.{false, true}
+use mathlib.Core.List.{List, map}
+use mathlib.Core.Path.{_∙_, _≡_, ap, refl}
+use Rattle.airframe.specs.Acceptance.{refusedPlace}
+use Rattle.airframe.specs.declared.Airframe.{Airframe}
+use Rattle.airframe_block.specs.Block.{readAirframeOf}
+use Rattle.answers.specs.declared.Answer.{Answer}
+use Rattle.answers.specs.declared.Answer.the-variants.{Departure, NumberOutOfRange, StateOutside, StepOutside}
+use Rattle.arrays.proofs.RoundTrip.{flight-again}
+use Rattle.arrays.specs.Airframe.{airframeIn, airframeNumbersCount}
+use Rattle.arrays.specs.Flight.{flightIn, tickIn}
+use Rattle.flight.specs.Envelope.{isInside}
+use Rattle.flight.specs.declared.Flight.{Flight}
+use Rattle.flight.specs.declared.Tick.{Tick}
+use Rattle.float.proofs.Tests.{either}
+use Rattle.float.specs.Interval.{inside}
+use Rattle.lag.specs.Lag.{stepLeast, stepMost}
+use Rattle.motors.specs.Motor.{spinOf}
+use Rattle.run.proofs.Calls.{OneCall, chain-calls}
+use Rattle.run.specs.Calls.{Chain, Each}
+use Rattle.run.specs.Run.{callsOf}
+use Rattle.surfaces.specs.Surface.{moveTo}
+use Rattle.wing.specs.Tick.{acceptedTick, movedOf, nextFrom, nextOf, refusedOf, spunOf, steppedOf, tickOf, unlessDeparted}
+use Rattle.wing.specs.declared.Ticked.{Ticked}
+use Rattle.bench_c.specs.Library.{ArrayCall, Tells, TickOutcome, isDone, stateAfterTick, tested, tick, tickLengths, tickPrepared, tickedBy}
+
+-- ---- what a tick leaves in the array is the state it hands back
+abbrev Left : List Float → Ticked → Type 0
+Left state k = flightIn (stateAfterTick state k) ≡ k .flight
+
+refused-left : (state : List Float) (x : Answer) → isDone x ≡ false → Left state (refusedOf x (flightIn state))
+unfolding stateAfterTick refusedOf
+refused-left state x e = rw e refl
+
+next-left : (a : Airframe) (state : List Float) (f : Flight) (t : Tick) → Left state (nextOf a f t)
+unfolding stateAfterTick nextOf nextFrom steppedOf spunOf movedOf spinOf moveTo
+next-left a state f t = flight-again _ refl refl
+
+tick-left : (a : Airframe) (state : List Float) (t : Tick) → Left state (tickOf a (flightIn state) t)
+unfolding tickOf acceptedTick unlessDeparted
+tick-left a state t =
+    let f = flightIn state in
+    either (Left state) (eqb (refusedPlace a) 0)
+    (either (Left state) (isInside f)
+    (either (Left state) (inside stepLeast stepMost (t .«step_s»)) (either (Left state) (isInside (nextOf a f t .flight)) (next-left a state f t) (refused-left state Departure refl)) (refused-left state StepOutside refl))
+    (refused-left state StateOutside refl))
+    (refused-left state (NumberOutOfRange (refusedPlace a)) refl)
+
+-- ---- one call that ticks with the airframe a, whatever form it has
+abbrev TicksWith : Airframe → (List Float → List Float → List Float → TickOutcome) → Type 0
+TicksWith a call = (state t report : List Float) → tickLengths (length state) (length t) (length report) ≡ true → call state t report ≡ tested state (tickOf a (flightIn state) (tickIn t))
+
+one-call : (a : Airframe) (call : List Float → List Float → List Float → TickOutcome) → TicksWith a call
+    → (state t : List Float) (o : TickOutcome) (after : List Float) → Unit {0} → ArrayCall call state t o after → OneCall a flightIn tickIn (λ (x : List Float). Unit {0}) Tells state t o after
+one-call a call h state t o after u c =
+    let e : o ≡ tested state (tickOf a (flightIn state) (tickIn t)) = c .answered ∙ h state t (c .report) (c .fit) in
+    let l = tick-left a state (tickIn t) in
+    record {
+      told = record { reply = ap (λ (x : TickOutcome). x .reply) e; state = ap (λ (x : TickOutcome). flightIn (x .state)) e ∙ l; report = ap (λ (x : TickOutcome). x .report) e };
+      left = ap flightIn (c .left) ∙ ap (λ (x : TickOutcome). flightIn (x .state)) e ∙ l;
+      fits = tt;
+    }
+
+array-calls : (a : Airframe) (call : List Float → List Float → List Float → TickOutcome) → TicksWith a call
+    → {state after : List Float} {ts : List (List Float)} {os : List TickOutcome} → Chain (ArrayCall call) state ts os after → Each Tells os (callsOf a (flightIn state) (map tickIn ts))
+array-calls a call h r = chain-calls a flightIn tickIn (λ (x : List Float). Unit {0}) Tells (ArrayCall call) (one-call a call h) tt r
+
+-- ---- with the airframe as a block that is accepted, and as its array
+block-ticks : (block : List ℕ) → isDone (readAirframeOf block .answer) ≡ true → TicksWith (readAirframeOf block .airframe) (tick block)
+unfolding tick tickedBy
+block-ticks block d state t report l = rw (l, d) refl
+
+prepared-ticks : (airframe : List Float) → length airframe ≡ airframeNumbersCount → TicksWith (airframeIn airframe) (tickPrepared airframe)
+unfolding tickPrepared
+prepared-ticks airframe e state t report l = rw (eq-eqb _ _ e, l) refl
+
+module _ {state after : List Float} {ts : List (List Float)} {os : List TickOutcome} where
+  pub block-calls : (block : List ℕ) → isDone (readAirframeOf block .answer) ≡ true → Chain (ArrayCall (tick block)) state ts os after
+      → Each Tells os (callsOf (readAirframeOf block .airframe) (flightIn state) (map tickIn ts))
+  block-calls block d r = array-calls (readAirframeOf block .airframe) (tick block) (block-ticks block d) r
+
+  pub prepared-calls : (airframe : List Float) → length airframe ≡ airframeNumbersCount → Chain (ArrayCall (tickPrepared airframe)) state ts os after
+      → Each Tells os (callsOf (airframeIn airframe) (flightIn state) (map tickIn ts))
+  prepared-calls airframe e r = array-calls (airframeIn airframe) (tickPrepared airframe) (prepared-ticks airframe e) r

@@ -1,0 +1,22 @@
+-- What the code's promises name besides the definitions: the pair of runs before it goes into the caller's arrays. Nothing here needs
+-- believing: the library's promises are by the definitions of Library.antt alone.
+use Prim.Native.Nat.{ℕ}
+use mathlib.Core.List.{List}
+use mathlib.Core.Path.{_≡_}
+use Rattle.airframe.specs.Acceptance.{refusedPlace}
+use Rattle.airframe_block.specs.declared.AirframeRead.{AirframeRead}
+use Rattle.answers.specs.Answers.{numberOf}
+use Rattle.flight.specs.Envelope.{outsideOf}
+use Rattle.flight.specs.declared.Flight.{Flight}
+use Rattle.flight.specs.declared.Tick.{Tick}
+use Rattle.run.specs.Mirrored.{Mirrored, RanRel}
+use Rattle.run.specs.declared.Pair.{Pair}
+use Rattle.bench_c.specs.Library.{ranBy, reflectedBy}
+
+-- the pair of an airframe that was read: both runs, that they mirror, and demand 3 where the run is not refused
+pub record PairBy (x : AirframeRead) (f : Flight) (trace : List ℕ) (r : Pair) : Type 0 where
+  pub first : r .first ≡ ranBy x f trace
+  pub second : r .second ≡ reflectedBy x f trace
+  pub ends : RanRel (r .first) (r .second)
+  pub theorem : numberOf (r .first .answer) ≡ 0 → refusedPlace (x .airframe) ≡ 0 → outsideOf f ≡ 0
+      → (ts : List Tick) → Mirrored (x .airframe) f ts

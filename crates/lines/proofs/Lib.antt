@@ -1,0 +1,3 @@
+-- Laws of texts on a page.
+pub mod Legs
+pub mod Texts

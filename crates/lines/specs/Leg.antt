@@ -1,0 +1,45 @@
+-- Ticks flown one after the other, and the text of their lines. Definitions only.
+use Prim.Native.Nat.{_%_, _*_, _+_, _-_, _/_, _^_, suc, zero, ℕ}
+use mathlib.Core.List.{List, [], _++_}
+use Rattle.airframe.specs.declared.Airframe.{Airframe}
+use Rattle.flight.specs.declared.Flight.{Flight}
+use Rattle.flight.specs.declared.Tick.{Tick}
+use Rattle.state_block.specs.Layout.{tickBytes, tickFrom}
+use Rattle.wing.specs.Tick.{tickOf}
+use Rattle.lines.specs.Text.{lineText}
+use Rattle.lines.specs.declared.flown.Flown.{Flown}
+
+-- the state after some ticks, the last one's index, and the text of their lines
+pub record Leg : Type 0 where
+  pub flight : Flight
+  pub index : ℕ
+  pub text : List ℕ
+
+-- before the first of them
+unfoldable pub legFrom : Flight → ℕ → Leg
+legFrom f index = record { flight = f; index = index; text = [] }
+
+-- counts are in 64 bits
+unfoldable pub oneMore : ℕ → ℕ
+oneMore n = (n + 1) % 2 ^ 64
+
+-- the line of a tick, by what it answers and hands back
+unfoldable pub tickText : Airframe → Flight → ℕ → Tick → List ℕ
+tickText a f index t = lineText index (tickOf a f t .report .answer) (tickOf a f t .flight)
+
+-- one tick more: each gets the state that the last one handed back, after a refusal too
+unfoldable pub legOn : Airframe → Leg → Tick → Leg
+legOn a p t = record {
+  flight = tickOf a (p .flight) t .flight;
+  index = oneMore (p .index);
+  text = p .text ++ tickText a (p .flight) (oneMore (p .index)) t;
+}
+
+-- the first n ticks of the bytes from `from` on
+unfoldable pub legOf : Airframe → Leg → List ℕ → ℕ → ℕ → Leg
+legOf a p s from zero = p
+legOf a p s from (suc n) = legOn a (legOf a p s from n) (tickFrom s (from + tickBytes * n))
+
+-- the whole ticks among the bytes from `from` to `to`, after those that p has flown
+abbrev pub legOver : Airframe → Flown → List ℕ → ℕ → ℕ → Leg
+legOver a p s from to = legOf a (legFrom (p .flight) (p .index)) s from ((to - from) / tickBytes)
