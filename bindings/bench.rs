@@ -34,6 +34,7 @@ pub enum Answer {
     StateOutside,
     StepOutside,
     Departure,
+    WindUnusable,
 }
 
 impl Answer {
@@ -50,6 +51,7 @@ impl Answer {
             7 => Answer::StateOutside,
             8 => Answer::StepOutside,
             9 => Answer::Departure,
+            10 => Answer::WindUnusable,
             number => panic!("the bench has no answer {number}"),
         }
     }
@@ -67,6 +69,7 @@ impl Answer {
             Answer::StateOutside => 7,
             Answer::StepOutside => 8,
             Answer::Departure => 9,
+            Answer::WindUnusable => 10,
         }
     }
 

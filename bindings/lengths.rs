@@ -1,6 +1,6 @@
 // The lengths, answers and places of include/bench.h, written by bindings/lengths.
 pub const BLOCK_VERSION: usize = 1;
-pub const CALLS_VERSION: usize = 2;
+pub const CALLS_VERSION: usize = 3;
 pub const AIRFRAME_NUMBERS: usize = 106;
 pub const STATE_NUMBERS: usize = 29;
 pub const TICK_NUMBERS: usize = 20;
@@ -13,7 +13,7 @@ pub const ROW_BYTES: usize = 13;
 pub const MOST_ROWS: usize = 16;
 
 /// The words of the answers from 0 on.
-pub const ANSWERS: [&str; 10] = [
+pub const ANSWERS: [&str; 11] = [
     "done",
     "wrong length",
     "the version is not 1",
@@ -24,6 +24,7 @@ pub const ANSWERS: [&str; 10] = [
     "the state is outside the envelope",
     "the step is not within 1/1024..0.02 s",
     "the next state would be outside the envelope (departure)",
+    "a component of the wind is a NaN or beyond 200 m/s",
 ];
 
 /// The names of the places from 1 on.

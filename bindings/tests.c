@@ -1,5 +1,6 @@
 /* The header's own code on a sample flight: tests FILE. Words and lengths, and the guarded forms from every float environment:
- * the bits they give are those of the plain calls in the default one, and the caller's control word comes back. */
+ * the bits they give are those of the plain calls in the default one, and the caller's control word comes back. And the winds
+ * that a tick refuses, at their limits. */
 #include <stdio.h>
 #include <string.h>
 
@@ -65,7 +66,9 @@ static void test_words(void)
     check(strcmp(bench_answer_text(BENCH_DONE), "done") == 0, "answer 0", "words");
     check(strcmp(bench_answer_text(BENCH_DEPARTURE), "the next state would be outside the envelope (departure)") == 0, "answer 9",
           "words");
-    check(strcmp(bench_answer_text(10), "unknown answer") == 0, "answer 10", "words");
+    check(strcmp(bench_answer_text(BENCH_WIND_UNUSABLE), "a component of the wind is a NaN or beyond 200 m/s") == 0, "answer 10",
+          "words");
+    check(strcmp(bench_answer_text(11), "unknown answer") == 0, "answer 11", "words");
     check(BENCH_PLACE_MASS_KG == 1 && strcmp(bench_place_name(1), "mass_kg") == 0, "place 1", "words");
     check(BENCH_PLACE_DAMPING_FRACTION == 48 && BENCH_PLACE_SURFACE_WEIGHT == 51, "the last places", "words");
     check(strcmp(bench_place_name(0), "unknown place") == 0, "place 0", "words");
@@ -274,6 +277,78 @@ static void test_guard(const struct sample *s)
     test_own_sums();
 }
 
+/* ---- The wind ---- */
+
+/* 200 m/s and the next float below, either way; the next float beyond, either way, the largest, infinities, NaNs. */
+static const uint32_t usable[] = {0x43480000, 0xC3480000, 0x4347FFFF, 0xC347FFFF};
+static const uint32_t unusable[] = {0x43480001, 0xC3480001, 0x7F7FFFFF, 0x7F800000, 0xFF800000, 0x7FC00000, 0xFFC00000, 0x7F800001};
+enum { USABLE = sizeof usable / sizeof *usable, UNUSABLE = sizeof unusable / sizeof *unusable };
+
+static const char *const components[3] = {"wind north", "wind east", "wind down"};
+
+/* Makes a vector of zeros but for the component, given by its bits. */
+static void set_component(float vector[3], size_t component, uint32_t bits)
+{
+    memset(vector, 0, 3 * sizeof *vector);
+    memcpy(vector + component, &bits, sizeof bits);
+}
+
+/* The sample's first tick in a wind of this component alone, by block and prepared. */
+static void tick_in_wind(const struct sample *s, const float *found, size_t component, uint32_t bits, uint64_t expected)
+{
+    struct results r;
+    read_blocks(&guarded, s, &r);
+    memcpy(r.start, found, sizeof r.start);
+    memset(r.report, 0xFF, sizeof r.report);
+    set_component(r.tick + BENCH_TICK_WIND, component, bits);
+    tick_both(&guarded, s, &r);
+    check(r.replies[4] == expected && r.replies[5] == expected, "another reply", components[component]);
+    if (expected == BENCH_DONE)
+        return;
+    static const float zeros[2][R] = {{0}};
+    check(memcmp(r.by_block, found, sizeof r.start) == 0 && memcmp(r.prepared, found, sizeof r.start) == 0,
+          "the state is not as found", components[component]);
+    check(memcmp(r.report, zeros, sizeof zeros) == 0, "the report has no zeros", components[component]);
+}
+
+/* In a usable wind the aeroplane drifts with it, so that it does not depart. */
+static void test_component(const struct sample *s, size_t component)
+{
+    float state[S];
+    guarded.read_state(s->state, BENCH_STATE_BYTES, state, S);
+    for (size_t at = 0; at < UNUSABLE; at++)
+        tick_in_wind(s, state, component, unusable[at], BENCH_WIND_UNUSABLE);
+    for (size_t at = 0; at < USABLE; at++) {
+        set_component(state + BENCH_STATE_VELOCITY, component, usable[at]);
+        tick_in_wind(s, state, component, usable[at], BENCH_DONE);
+    }
+}
+
+/* The trace with an unusable wind in one of its ticks: a run, a flight and its reflection are refused there alone. */
+static void test_pair_in_wind(const struct sample *s, size_t component)
+{
+    uint8_t *wind = s->trace + 7 * BENCH_TICK_BYTES + 4 * (BENCH_TICK_WIND + component), was[4];
+    memcpy(was, wind, sizeof was);
+    for (size_t at = 0; at < UNUSABLE; at++) {
+        struct results r;
+        put(wind, 0, unusable[at]);
+        read_blocks(&guarded, s, &r);
+        run_both(&guarded, s, &r);
+        check(r.replies[6] == BENCH_DONE && r.replies[7] == BENCH_DONE, "a run is refused", components[component]);
+        for (size_t run = 0; run < 3; run++)
+            check(r.accepted[run] == TICKS - 1, "another tick is refused, or none", components[component]);
+    }
+    memcpy(wind, was, sizeof was);
+}
+
+static void test_winds(const struct sample *s)
+{
+    for (size_t component = 0; component < 3; component++) {
+        test_component(s, component);
+        test_pair_in_wind(s, component);
+    }
+}
+
 int main(int count, char **arguments)
 {
     struct sample sample;
@@ -284,5 +359,6 @@ int main(int count, char **arguments)
     make_telling(&sample);
     test_words();
     test_guard(&sample);
+    test_winds(&sample);
     return failures != 0;
 }

@@ -7,6 +7,8 @@ mod environments;
 mod limits;
 #[path = "tests/nans.rs"]
 mod nans;
+#[path = "tests/winds.rs"]
+mod winds;
 
 use bench::{Airframe, Answer, STATE_BYTES, State, TICK_BYTES, TICK_NUMBERS, raw};
 
@@ -175,7 +177,7 @@ fn a_tick_of_another_length_is_refused() {
 fn answers_and_places_have_their_words() {
     assert_eq!(bench::place_name(bench::place::DAMPING_FRACTION), "damping_fraction");
     assert_eq!(["unknown place"; 2], [0, 52].map(bench::place_name));
-    for reply in (0..10).map(|number| number + 16 * u64::from(number == 6)) {
+    for reply in (0..=10).map(|number| number + 16 * u64::from(number == 6)) {
         let answer = Answer::of(reply);
         assert_eq!(answer.number() as u64, reply % 16);
         assert!(answer.to_string().starts_with(bench::ANSWERS[answer.number()]));

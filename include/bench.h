@@ -32,9 +32,10 @@ extern "C" {
 
 /* The version of the blocks, which an airframe block's first four bits give: another one means another layout of bytes. The
  * version of the calls: it rises where a call is added or answers otherwise. 2 has bench_read_tick and bench_write_tick, and a
- * run looks at its trace's length before its block. */
+ * run looks at its trace's length before its block. 3 tests the wind of a tick: a NaN or more than 200 m/s gets the new answer
+ * 10, after 8 and before 9. */
 #define BENCH_BLOCK_VERSION 1
-#define BENCH_CALLS_VERSION 2
+#define BENCH_CALLS_VERSION 3
 
 /* How many floats each array has. */
 #define BENCH_AIRFRAME_NUMBERS 106
@@ -62,7 +63,8 @@ extern "C" {
     ANSWER(6, NUMBER_OUT_OF_RANGE, "a number of the airframe is outside its limits") \
     ANSWER(7, STATE_OUTSIDE, "the state is outside the envelope")                    \
     ANSWER(8, STEP_OUTSIDE, "the step is not within 1/1024..0.02 s")                 \
-    ANSWER(9, DEPARTURE, "the next state would be outside the envelope (departure)")
+    ANSWER(9, DEPARTURE, "the next state would be outside the envelope (departure)") \
+    ANSWER(10, WIND_UNUSABLE, "a component of the wind is a NaN or beyond 200 m/s")
 
 /* The places of answer 6: BENCH_PLACE_MASS_KG = 1 and so on, each with its name. 39 is the motors' time constant, 42 to 48 are
  * the wash's numbers; 49 is any row's factor, 50 any motor's torque, 51 any surface's weight. docs/SCOPE.md has their limits. */
@@ -183,7 +185,7 @@ enum bench_state_places {
 /* Where the numbers of a tick's array start; they stand in the same order in its block. */
 enum bench_tick_places {
     BENCH_TICK_STEP = 0,   /* 1: step, in s */
-    BENCH_TICK_WIND = 1,   /* 3: wind north, east, down, in m/s */
+    BENCH_TICK_WIND = 1,   /* 3: wind north, east, down, in m/s, each within 200 */
     BENCH_TICK_MOTORS = 4, /* 8: motor commands */
     BENCH_TICK_SERVOS = 12 /* 8: servo commands */
 };
@@ -238,8 +240,9 @@ uint64_t bench_write_tick(const float *tick, size_t tick_len, uint8_t *block, si
 /* One tick: moves the state in its array of 29 on by the tick's array of 20, with the airframe as its block, and gives alpha, beta
  * and thrust in the report's array of 3. Refused, the first that holds: an array of another length (1), which leaves state and
  * report as found; a refused block, with bench_read_airframe's reply; the state outside the envelope (7); the step not in
- * 1/1024..0.02 s (8); a departure (9). But for an array's length, a refusal leaves the state as found and reports zeros. Wind
- * and commands may be any floats: a command that is NaN counts as 0, others are held to their range. */
+ * 1/1024..0.02 s (8); a component of the wind that is a NaN or beyond 200 m/s either way (10); a departure (9). But for an
+ * array's length, a refusal leaves the state as found and reports zeros. Commands may be any floats: one that is NaN counts as 0,
+ * others are held to their range. */
 uint64_t bench_tick(const uint8_t *airframe_block, size_t airframe_block_len, float *state, size_t state_len, const float *tick,
                     size_t tick_len, float *report, size_t report_len);
 

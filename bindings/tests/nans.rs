@@ -6,6 +6,7 @@ use bench::{AIRFRAME_NUMBERS, REPORT_NUMBERS, STATE_BYTES, STATE_NUMBERS, State,
 use crate::{Sample, sample};
 
 const STATE_OUTSIDE: u64 = 7;
+const WIND_UNUSABLE: u64 = 10;
 const WRONG_LENGTH: u64 = 1;
 const WRITTEN: [u8; 4] = [0x7F, 0xC0, 0x00, 0x00];
 
@@ -137,11 +138,29 @@ fn what_is_lent_for_reading_is_left() {
     for found in arrays::<TICK_NUMBERS>(some().into_iter()) {
         let (mut state, mut tick, mut report) = (sample.state, found, [1.0; REPORT_NUMBERS]);
         tick[0] = 0.01;
-        assert_eq!(raw::tick_prepared(sample.airframe.numbers(), &mut state, &tick, &mut report), 0);
+        let numbers = sample.airframe.numbers();
+        assert_eq!(raw::tick_prepared(numbers, &mut state, &tick, &mut report), WIND_UNUSABLE);
         same_bits(&tick[1..], &found[1..]);
+        tick[1..4].fill(0.0);
+        assert_eq!(raw::tick_prepared(numbers, &mut state, &tick, &mut report), 0);
+        same_bits(&tick[4..], &found[4..]);
         airframe[..TICK_NUMBERS].copy_from_slice(&found);
         assert_eq!(raw::tick_prepared(&airframe, &mut state, &tick, &mut report), 6 + 16);
         same_bits(&airframe[..TICK_NUMBERS], &found);
+    }
+}
+
+/// In each component of the wind.
+#[test]
+fn a_nan_in_the_wind_is_refused() {
+    let sample = sample();
+    let calm = first_tick(&sample);
+    for (nan, at) in some().into_iter().flat_map(|nan| [(nan, 1), (nan, 2), (nan, 3)]) {
+        let (mut state, mut tick, mut report) = (sample.state, calm, [1.0; REPORT_NUMBERS]);
+        tick[at] = nan;
+        let reply = raw::tick_prepared(sample.airframe.numbers(), &mut state, &tick, &mut report);
+        assert_eq!((reply, report), (WIND_UNUSABLE, [0.0; REPORT_NUMBERS]));
+        same_bits(&state, &sample.state);
     }
 }
 

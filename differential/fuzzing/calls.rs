@@ -37,7 +37,7 @@ type Held = Result<(), String>;
 #[derive(Default)]
 pub struct Counts {
     pub calls: [u64; NAMES.len()],
-    pub answers: [u64; 10],
+    pub answers: [u64; 11],
 }
 
 fn hold(holds: bool, call: usize, what: &str) -> Held {
@@ -48,7 +48,7 @@ fn hold(holds: bool, call: usize, what: &str) -> Held {
     }
 }
 
-/// One call, watched over; its reply must be one of the ten answers, with a place for 6 only.
+/// One call, watched over; its reply must be one of the eleven answers, with a place for 6 only.
 fn made(counts: &mut Counts, call: usize, run: impl FnOnce() -> u64) -> Result<u64, String> {
     watch::begin(call);
     let reply = run();
@@ -56,7 +56,7 @@ fn made(counts: &mut Counts, call: usize, run: impl FnOnce() -> u64) -> Result<u
     let (answer, place) = (reply % 16, reply / 16);
     let known = match answer {
         6 => (1..=51).contains(&place),
-        _ => answer < 10 && place == 0,
+        _ => answer < 11 && place == 0,
     };
     hold(known, call, &format!("reply {reply}"))?;
     counts.calls[call] += 1;
@@ -202,6 +202,11 @@ impl TickRows {
         lengths == [STATE_NUMBERS, TICK_NUMBERS, REPORT_NUMBERS]
     }
 
+    fn wind_usable(&self) -> bool {
+        let wind = self.tick.content().get(1..4);
+        wind.is_some_and(|wind| wind.iter().all(|x| x.abs() <= 200.0))
+    }
+
     /// What must hold of them after a tick.
     fn after(&self, fit: bool, reply: u64, call: usize) -> Held {
         left(&self.tick, call)?;
@@ -209,8 +214,10 @@ impl TickRows {
         whole(&self.report, call)?;
         if reply == 0 {
             hold(fit, call, "took a row of another length")?;
+            hold(self.wind_usable(), call, "flew in an unusable wind")?;
             return hold(inside(self.state.content()), call, "a state outside");
         }
+        hold(reply != 10 || !self.wind_usable(), call, "refused a usable wind")?;
         left(&self.state, call)?;
         if fit {
             return hold(zeros(&self.report), call, "refused, but reports no zeros");

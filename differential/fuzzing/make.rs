@@ -6,7 +6,7 @@ use crate::rng::Rng;
 use crate::seeds::Flight;
 
 /// Numbers at which a test or a formula may turn.
-const TELLING: [u32; 16] = [
+const TELLING: [u32; 20] = [
     0x0000_0000,
     0x8000_0000,
     0x0000_0001,
@@ -17,6 +17,10 @@ const TELLING: [u32; 16] = [
     0x4000_0000,
     0x42C8_0000,
     0x42C8_0001,
+    0x4348_0000,
+    0x4348_0001,
+    0xC348_0000,
+    0xC348_0001,
     0x4974_2400,
     0x7F7F_FFFF,
     0x7F80_0000,

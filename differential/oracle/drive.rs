@@ -1,5 +1,5 @@
 //! The originals as a bench drives them: one wing and one body kept from tick to tick, with as
-//! many of document 01's tests around them as asked. For the benchmark; `tick` is for answers.
+//! many of the tick's tests around them as asked. For the benchmark; `tick` is for answers.
 
 use stable_flight::ActuatorCommand;
 
@@ -10,12 +10,12 @@ use crate::lockstep::Dynamics;
 use crate::tick::{body, state_after, vector, wing};
 use crate::wing::FixedWing;
 
-/// Which of 01's tests are made.
+/// Which of the tick's tests are made.
 #[derive(Debug, Clone, Copy, PartialEq)]
 pub enum Tests {
     /// None: the originals as they stand.
     Bare,
-    /// State, step and departure at each tick; the airframe once, when the driver is made.
+    /// State, step, wind and departure at each tick; the airframe once, when the driver is made.
     AirframeOnce,
     /// The airframe too at each tick.
     All,
@@ -60,7 +60,8 @@ impl Driver {
 
     fn tested(&mut self, tick: &Tick) -> bool {
         let before = self.state();
-        if !before.inside() || !limits::within(tick.step, limits::STEP_S) {
+        let flyable = limits::within(tick.step, limits::STEP_S) && limits::wind(tick.wind);
+        if !before.inside() || !flyable {
             return false;
         }
         self.fly_on(tick);

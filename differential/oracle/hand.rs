@@ -1,4 +1,5 @@
-//! Document 01's cases: "Flown by hand" and the examples of "What the bench replies".
+//! Document 01's cases: "Flown by hand" and the examples of "What the bench replies"; and the winds
+//! that document 02 refuses.
 
 use core::hint::black_box;
 
@@ -8,7 +9,7 @@ use stable_flight::mixers::{MixRow, Slot};
 use crate::aero;
 use crate::blocks::{Airframe, Refusal, State, Tick, mix, read_airframe, read_state, write_state};
 use crate::fly::fly;
-use crate::inputs::{AirframeBlock, Row, state_bytes};
+use crate::inputs::{AirframeBlock, Row, push, state_bytes};
 use crate::lag;
 use crate::limits;
 use crate::tick::{self, Report, falloff, model, run};
@@ -26,6 +27,7 @@ pub fn check() -> bool {
         rows(),
         replies(),
         ticks(),
+        winds(),
         flights(),
     ]
     .concat();
@@ -248,28 +250,32 @@ fn still(step: f32) -> Tick {
 
 fn answered(airframe: &Airframe, state: &State, tick: &Tick, answer: u8, place: u8) -> bool {
     let (report, next) = tick::tick(airframe, state, tick);
-    let kept = answer == 0 || next == *state;
-    report
-        == (Report {
-            answer,
-            place,
-            ..report
-        })
-        && kept
+    let refusal = Refusal {
+        number: answer,
+        place,
+    };
+    match answer {
+        0 => report.answer == 0,
+        _ => (report, next) == (Report::refused(refusal), *state),
+    }
+}
+
+/// Northernmost and flying north: the next position is outside the envelope.
+pub fn far_north() -> State {
+    State {
+        position: [1_000_000.0, 0.0, 0.0],
+        velocity: [150.0, 0.0, 0.0],
+        ..at_rest()
+    }
 }
 
 /// 9's example: the position leaves the envelope though nothing accelerates it north.
 fn departs() -> bool {
-    let far = State {
-        position: [1_000_000.0, 0.0, 0.0],
-        velocity: [150.0, 0.0, 0.0],
-        ..at_rest()
-    };
     let tick = Tick {
         wind: [150.0, 0.0, 0.0],
         ..still(1.0 / 64.0)
     };
-    answered(&airframe_of(&plain()), &far, &tick, 9, 0)
+    answered(&airframe_of(&plain()), &far_north(), &tick, 9, 0)
 }
 
 fn unused_motor_stays() -> bool {
@@ -337,7 +343,75 @@ fn ticks() -> Vec<Case> {
     ]
 }
 
-/// The fall of two ticks, as printed in document 01.
+/// 200 m/s and the next float below it, either way.
+pub const USABLE: [f32; 4] = [-200.0, -200f32.next_down(), 200f32.next_down(), 200.0];
+
+/// The next float beyond 200 m/s either way, both infinities and a NaN of each sign.
+pub const UNUSABLE: [f32; 6] = [
+    -200f32.next_up(),
+    200f32.next_up(),
+    f32::NEG_INFINITY,
+    f32::INFINITY,
+    f32::NAN,
+    -f32::NAN,
+];
+
+/// Each component as the wind north, as the wind east and as the wind down, the other two 0.
+pub fn each_way(components: &[f32]) -> Vec<[f32; 3]> {
+    let each = |x: &f32| [[*x, 0.0, 0.0], [0.0, *x, 0.0], [0.0, 0.0, *x]];
+    components.iter().flat_map(each).collect()
+}
+
+/// Whether every tick of `step` in a wind with one of these components gets the answer.
+fn blown(
+    airframe: &Airframe,
+    state: &State,
+    step: f32,
+    components: &[f32],
+    (answer, place): (u8, u8),
+) -> bool {
+    let mut winds = each_way(components).into_iter();
+    winds.all(|wind| {
+        let tick = Tick {
+            wind,
+            ..still(step)
+        };
+        answered(airframe, state, &tick, answer, place)
+    })
+}
+
+fn winds() -> Vec<Case> {
+    let (airframe, rest, step) = (airframe_of(&plain()), at_rest(), 1.0 / 64.0);
+    let fast = State {
+        rates: [0.0, 0.0, 101.0],
+        ..rest
+    };
+    let calm = |components: &[f32], answer| blown(&airframe, &rest, step, components, (answer, 0));
+    vec![
+        ("wind of 200 m/s and just below: 0", calm(&USABLE, 0)),
+        ("one float beyond 200 m/s: 10", calm(&UNUSABLE[..2], 10)),
+        ("wind of either infinity: 10", calm(&UNUSABLE[2..4], 10)),
+        ("wind of NaN: 10", calm(&UNUSABLE[4..], 10)),
+        (
+            "unusable wind and a departure: 10",
+            blown(&airframe, &far_north(), step, &UNUSABLE, (10, 0)),
+        ),
+        (
+            "unusable wind and a step of 0: 8",
+            blown(&airframe, &far_north(), 0.0, &UNUSABLE, (8, 0)),
+        ),
+        (
+            "unusable wind from a state at 101 rad/s: 7",
+            blown(&airframe, &fast, 0.0, &UNUSABLE, (7, 0)),
+        ),
+        (
+            "unusable wind on the zero airframe: 6, place 1",
+            blown(&Airframe::zero(), &fast, 0.0, &UNUSABLE, (6, 1)),
+        ),
+    ]
+}
+
+/// The lines of two ticks of free fall.
 const FALL: [&str; 2] = [
     "1 0 00000000 00000000 3B1CE80A 00000000 00000000 3E1CE80A 3F800000 00000000 00000000 \
      00000000 00000000 00000000 00000000",
@@ -345,23 +419,48 @@ const FALL: [&str; 2] = [
      00000000 00000000 00000000 00000000",
 ];
 
-/// The fall's input: no rows, no wash, two ticks of 1/64 s in a wind of NaN.
-pub fn fall() -> Vec<u8> {
+/// The lines of the two ticks where their wind is NaN: the state at rest stays.
+const NO_FALL: [&str; 2] = [
+    "1 10 00000000 00000000 00000000 00000000 00000000 00000000 3F800000 00000000 00000000 \
+     00000000 00000000 00000000 00000000",
+    "2 10 00000000 00000000 00000000 00000000 00000000 00000000 3F800000 00000000 00000000 \
+     00000000 00000000 00000000 00000000",
+];
+
+/// A fall's input: no rows, no wash, from rest two ticks of 1/64 s in these winds.
+fn fall_in(winds: [[f32; 3]; 2]) -> Vec<u8> {
     let mut bytes = plain().bytes();
     bytes.extend(state_bytes(&at_rest()));
-    for _ in 0..2 {
-        bytes.extend((1.0f32 / 64.0).to_be_bytes());
-        bytes.extend(f32::NAN.to_be_bytes().repeat(3));
+    for wind in winds {
+        push(&mut bytes, &[1.0 / 64.0]);
+        push(&mut bytes, &wind);
         bytes.extend([0; 64]);
     }
     bytes
+}
+
+/// The wind down is the velocity down, so that the air speed is 0 in both ticks.
+pub fn fall() -> Vec<u8> {
+    let fallen = f32::from_bits(0x3E1C_E80A);
+    fall_in([[0.0; 3], [0.0, 0.0, fallen]])
+}
+
+pub fn fall_in_nan() -> Vec<u8> {
+    fall_in([[f32::NAN; 3]; 2])
 }
 
 fn flights() -> Vec<Case> {
     let fall = fall();
     let short = &fall[..fall.len() - 1];
     vec![
-        ("fly's fall of two ticks", fly(&fall) == FALL),
+        (
+            "fly's fall of two ticks in a wind that goes down with it",
+            fly(&fall) == FALL,
+        ),
+        (
+            "fly's fall of two ticks in a wind of NaN: 10, at rest",
+            fly(&fall_in_nan()) == NO_FALL,
+        ),
         (
             "a byte short of the second tick",
             fly(short) == [FALL[0], "0 1 0"],

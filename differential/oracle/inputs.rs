@@ -380,14 +380,32 @@ fn step(rng: &mut Rng) -> f32 {
     }
 }
 
+/// A component of the wind at its limits: the last floats that pass, and the first that do not.
+fn gust(rng: &mut Rng) -> f32 {
+    let (low, high) = limits::WIND_MPS;
+    match rng.below(8) {
+        0..4 => rng.pick(&[low, low.next_up(), high.next_down(), high]),
+        _ => outside(rng, limits::WIND_MPS),
+    }
+}
+
+/// A light wind with a gust in one component.
+fn gusty(rng: &mut Rng) -> [f32; 3] {
+    let mut wind = three(rng, 12.0);
+    wind[rng.below(3)] = gust(rng);
+    wind
+}
+
+/// Any wind, most of them usable.
 fn wind(rng: &mut Rng) -> [f32; 3] {
     match rng.below(16) {
-        0 => [f32::NAN; 3],
+        0 => gusty(rng),
         1 => [special(rng), rng.between(-3.0, 3.0), 0.0],
         2 => [special(rng), special(rng), special(rng)],
         3 => core::array::from_fn(|_| rng.scaled(-30, 6)),
-        4 => core::array::from_fn(|_| rng.scaled(4, 12)),
-        5..10 => [0.0; 3],
+        4 => core::array::from_fn(|_| rng.scaled(4, 8)),
+        5 => three(rng, limits::WIND_MPS.1),
+        6..11 => [0.0; 3],
         _ => three(rng, 12.0),
     }
 }
@@ -437,10 +455,11 @@ fn calm_tick(rng: &mut Rng, steps: bool) -> [f32; 20] {
 
 /// A long input of fly: up to `most` ticks, mostly calm ones, each held for a while. Now and then a
 /// wild one comes between; one flight in five has wild ticks only. In every other flight the step
-/// changes with the tick that is held.
+/// changes with the tick that is held. In one flight of four one tick in eight is in a gust.
 pub fn long_flight(rng: &mut Rng, most: usize) -> Vec<u8> {
     let wild_once_in = rng.pick(&[1, 8, 32, 128, 1024]);
     let held_once_in = rng.pick(&[2, 16, 64]);
+    let gust_once_in = rng.pick(&[8, 128, 1024, 1024]);
     let steps = rng.once_in(2);
     let mut bytes = airframe(rng).bytes();
     bytes.extend(state_bytes(&state(rng)));
@@ -450,7 +469,10 @@ pub fn long_flight(rng: &mut Rng, most: usize) -> Vec<u8> {
             held = calm_tick(rng, steps);
         }
         let wild = rng.once_in(wild_once_in);
-        let one = if wild { tick(rng, false) } else { held };
+        let mut one = if wild { tick(rng, false) } else { held };
+        if rng.once_in(gust_once_in) {
+            one[1 + rng.below(3)] = gust(rng);
+        }
         push(&mut bytes, &one);
     }
     bytes
@@ -471,8 +493,14 @@ pub fn damaged(rng: &mut Rng) -> Vec<u8> {
 fn with_state_and_tick(rng: &mut Rng, airframe: &AirframeBlock) -> Vec<u8> {
     let mut bytes = airframe.bytes();
     bytes.extend(state_bytes(&state(rng)));
-    push(&mut bytes, &tick(rng, true));
+    push(&mut bytes, &any_tick(rng));
     bytes
+}
+
+/// A calm or a wild tick.
+fn any_tick(rng: &mut Rng) -> [f32; 20] {
+    let calm = rng.once_in(2);
+    tick(rng, calm)
 }
 
 /// Version, falloff kind, a reserved bit or the row count; now and then two of them.
@@ -547,7 +575,7 @@ fn bad_state(rng: &mut Rng, airframe: AirframeBlock) -> Vec<u8> {
     }
     let mut bytes = airframe.bytes();
     bytes.extend(state_bytes(&state));
-    push(&mut bytes, &tick(rng, true));
+    push(&mut bytes, &any_tick(rng));
     bytes
 }
 

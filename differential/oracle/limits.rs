@@ -1,4 +1,4 @@
-//! Document 01's limits. NaN is outside all of them; -0 is 0.
+//! Document 01's limits, and the wind's of document 02. NaN is outside all of them; -0 is 0.
 
 /// Wrong length.
 pub const LENGTH: u8 = 1;
@@ -10,6 +10,7 @@ pub const AIRFRAME: u8 = 6;
 pub const STATE: u8 = 7;
 pub const STEP: u8 = 8;
 pub const DEPARTURE: u8 = 9;
+pub const WIND: u8 = 10;
 
 pub type Range = (f32, f32);
 
@@ -72,3 +73,10 @@ pub const NORM: Range = (0.9, 1.1);
 pub const MOTOR: Range = (0.0, 1.0);
 pub const SERVO: Range = (-1.0, 1.0);
 pub const STEP_S: Range = (1.0 / 1024.0, 0.02);
+/// Each component of a tick's wind.
+pub const WIND_MPS: Range = (-200.0, 200.0);
+
+/// Whether a tick can be flown in this wind.
+pub fn wind(components: [f32; 3]) -> bool {
+    components.iter().all(|x| within(*x, WIND_MPS))
+}

@@ -1,5 +1,5 @@
-//! The tick and the run of document 01: its tests around the original `begin`, `loads`
-//! and `step`.
+//! The tick and the run of document 01: its tests, and 02's of the wind, around the original
+//! `begin`, `loads` and `step`.
 
 use stable_flight::mixers::TableMixer;
 use stable_flight::nalgebra::UnitQuaternion;
@@ -46,6 +46,9 @@ pub fn tick(airframe: &Airframe, state: &State, tick: &Tick) -> (Report, State) 
     }
     if !limits::within(tick.step, limits::STEP_S) {
         return refused(Refusal::of(limits::STEP));
+    }
+    if !limits::wind(tick.wind) {
+        return refused(Refusal::of(limits::WIND));
     }
     let (report, next) = fly_on(airframe, state, tick);
     if !next.inside() {

@@ -1,24 +1,45 @@
--- Where the stall blend's exponents lie: what is clamped lies between the bounds. Assumes nothing.
+-- Where the stall blend's exponents lie, and that alpha and beta are numbers in air whose components are. Assumes nothing.
+use Prim.Native.Nat.{ℕ}
 use lib.Dec.{T}
 use lib.Ieee.{Float, fin, isNan, le, lt, neg, round}
 use lib.Ieee.Scale.{finite}
 use lib.IntN.{pos}
 use mathlib.Core.Bool.{Bool, cond, false, not, true}
-use Rattle.float.proofs.Order.{finite-number, le-self, not-lt→le}
+use Rattle.fixed_wing.specs.declared.FixedWingModel.{FixedWingModel}
+use Rattle.float.proofs.Interval.{clamp-in}
+use Rattle.float.proofs.Order.{finite-number}
+use Rattle.float.proofs.Sizes.{div-number, sized-finite}
 use Rattle.float.specs.Interval.{Within}
-use Rattle.float.specs.Notation.{clamp}
+use Rattle.float.specs.Notation.{_⊘_, clamp, nought, one}
+use Rattle.libm.proofs.Angles.{asin-sized, atan2-sized}
+use Rattle.tailsitter_model.specs.declared.Wash.{Wash}
+use Rattle.vector.proofs.Range.{VecSized}
+use Rattle.vector.specs.Vector.{normOf}
+use Rattle.vector.specs.declared.Vec3.{Vec3}
 use Rattle.aero.specs.Coefficients.{sixty}
-
-clamp-in : (lo hi x : Float) → T (finite lo) → T (finite hi) → T (le lo hi) → T (not (isNan x)) → Within lo hi (clamp lo hi x)
-unfolding clamp
-clamp-in lo hi x p q m n = go (lt x lo) (lt hi x) (not-lt→le x lo n (finite-number lo p)) (not-lt→le hi x (finite-number hi q) n)
-  where
-    go : (a b : Bool) → (T (not a) → T (le lo x)) → (T (not b) → T (le x hi)) → Within lo hi (cond a lo (cond b hi x))
-    go true b h k = record { at-least = le-self lo p; at-most = m }
-    go false true h k = record { at-least = m; at-most = le-self hi q }
-    go false false h k = record { at-least = h tt; at-most = k tt }
+use Rattle.aero.specs.Wrench.{flowAt, flowOf, movingAt, movingOf, sideslip, stillOf, surfaceWrench, washedSurfaces, withSurfaces, wrenchOf}
+use Rattle.aero.specs.declared.Aero.{Aero}
 
 -- what `expf` is given is from -60 to 60, unless it is a NaN
 pub blend-argument : (x : Float) → T (not (isNan x)) → Within (neg sixty) sixty (clamp (neg sixty) sixty x)
 unfolding neg round
 blend-argument x n = clamp-in (fin true 15 (pos 2)) sixty x tt tt (unfold le in tt) n
+
+-- ---- the angles: finite, whatever the airframe's numbers, the rates, the wash and the density are
+abbrev pub Angles : Aero → Type 0
+Angles r = T (finite (r .«alpha_rad»)) × T (finite (r .«beta_rad»))
+
+sideslip-finite : (v speed : Float) → T (finite v) → T (lt nought speed) → T (finite (sideslip v speed))
+unfolding sideslip
+sideslip-finite v speed p q =
+    let w : Within (neg one) one (clamp (neg one) one (v ⊘ speed)) = clamp-in (neg one) one (v ⊘ speed) (unfold neg in tt) tt (unfold le neg in tt) (div-number v speed p q) in
+    sized-finite (asin-sized (clamp (neg one) one (v ⊘ speed)) (record { within = w }))
+
+pub wrench-angles : {n : ℕ} (m : FixedWingModel) (air rates d : Vec3) (w : Wash) (density : Float) → VecSized n air → Angles (wrenchOf m air rates d w density)
+unfolding wrenchOf movingOf movingAt withSurfaces flowOf flowAt stillOf washedSurfaces surfaceWrench
+wrench-angles m air rates d w density s = go (lt nought (normOf air)) (λ t. t)
+  where
+    go : (b : Bool) → (T b → T (lt nought (normOf air)))
+        → Angles (cond b (movingOf m (normOf air) (flowOf m air density) (sideslip (air .y) (normOf air)) rates d w density) (stillOf m rates d w density))
+    go true h = (sized-finite (atan2-sized (air .z) (air .x) (sized-finite (s .z)) (finite-number (air .x) (sized-finite (s .x)))), sideslip-finite (air .y) (normOf air) (sized-finite (s .y)) (h tt))
+    go false h = (tt, tt)

@@ -3,26 +3,20 @@ use Prim.Native.Nat.{ℕ}
 use denote.Index.{place}
 use lib.Dec.{eqb}
 use lib.Ieee.{Float}
-use mathlib.Core.Bool.{Bool, cond}
+use mathlib.Core.Bool.{cond}
 use mathlib.Core.List.{List}
 use mathlib.Core.Path.{_≡_, ap, refl}
-use Rattle.float.proofs.Bounds.{inside-rel}
 use Rattle.float.specs.Notation.{rounded}
 use Rattle.mixers.proofs.Reflected.{reflect-axes}
 use Rattle.mixers.specs.Reflection.{AxesRel}
 use Rattle.motors.proofs.Mirror.{reflect-group}
 use Rattle.ordered.proofs.Ordered.{fail-same}
-use Rattle.vector.specs.Reflection.{VecRel}
-use Rattle.vector.specs.Vector.{vecInside}
+use Rattle.vector.proofs.Mirror.{vec-inside-is}
 use Rattle.vector.specs.declared.Vec3.{Vec3}
 use Rattle.airframe.specs.Acceptance.{firstRefused, lowestPlace, refusedPlace, slotVecInside, vectorsOutside}
 use Rattle.airframe.specs.Numbers.{baseNumbers, numbersOf}
 use Rattle.airframe.specs.Reflection.{AirframeRel, reflectAirframe}
 use Rattle.airframe.specs.declared.Airframe.{Airframe}
-
-vec-inside-is : {p : Bool} {v v' : Vec3} (limit : Float) → VecRel p v v' → vecInside limit v' ≡ vecInside limit v
-unfolding vecInside
-vec-inside-is limit h = rw (inside-rel limit (h .x), inside-rel limit (h .y), inside-rel limit (h .z))
 
 vectors-outside-is : (vs vs' : List Vec3) (limit : Float) (place : ℕ) → AxesRel vs vs' → vectorsOutside limit place vs' ≡ vectorsOutside limit place vs
 unfolding vectorsOutside slotVecInside

@@ -1,8 +1,8 @@
--- What the bench replies: the number and the place of each answer (01's table). Definitions only.
+-- What the bench replies: the number and the place of each answer (01's table, and 10 of 02, 1). Definitions only.
 use Prim.Native.Nat.{ℕ}
 use Rattle.answers.specs.declared.Answer.{Answer}
 use Rattle.answers.specs.declared.Answer.the-variants.{Departure, Done, NumberOutOfRange, ReservedBit, StateOutside, StepOutside}
-use Rattle.answers.specs.declared.Answer.the-variants.{TooManyRows, WrongFalloff, WrongLength, WrongVersion}
+use Rattle.answers.specs.declared.Answer.the-variants.{TooManyRows, WindUnusable, WrongFalloff, WrongLength, WrongVersion}
 
 abbrev pub numberOf : Answer → ℕ
 numberOf Done = 0
@@ -15,6 +15,7 @@ numberOf (NumberOutOfRange p) = 6
 numberOf StateOutside = 7
 numberOf StepOutside = 8
 numberOf Departure = 9
+numberOf WindUnusable = 10
 
 -- the place is that of answer 6, and 0 of every other
 abbrev pub placeOf : Answer → ℕ
@@ -28,3 +29,4 @@ placeOf TooManyRows = 0
 placeOf StateOutside = 0
 placeOf StepOutside = 0
 placeOf Departure = 0
+placeOf WindUnusable = 0

@@ -14,6 +14,7 @@ pub enum Answer {
     StateOutside,
     StepOutside,
     Departure,
+    WindUnusable,
 }
 
 impl Answer {
@@ -32,6 +33,7 @@ impl Answer {
             Answer::StateOutside => 7,
             Answer::StepOutside => 8,
             Answer::Departure => 9,
+            Answer::WindUnusable => 10,
         }
     }
 
@@ -50,6 +52,7 @@ impl Answer {
             Answer::StateOutside => 0,
             Answer::StepOutside => 0,
             Answer::Departure => 0,
+            Answer::WindUnusable => 0,
         }
     }
 }

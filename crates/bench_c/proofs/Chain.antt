@@ -2,32 +2,28 @@
 -- of the definition's calls, so that demand 3 speaks of calls that were made. Assumes nothing.
 use Prim.Native.Nat.{ℕ}
 use borrow.Author.Tests.{eq-eqb}
-use lib.Dec.{eqb}
 use lib.Ieee.{Float}
 use lib.ListN.{length}
 use mathlib.Core.Bool.{false, true}
 use mathlib.Core.List.{List, map}
 use mathlib.Core.Path.{_∙_, _≡_, ap, refl}
-use Rattle.airframe.specs.Acceptance.{refusedPlace}
 use Rattle.airframe.specs.declared.Airframe.{Airframe}
 use Rattle.airframe_block.specs.Block.{readAirframeOf}
+use Rattle.answers.specs.Answers.{numberOf}
 use Rattle.answers.specs.declared.Answer.{Answer}
-use Rattle.answers.specs.declared.Answer.the-variants.{Departure, NumberOutOfRange, StateOutside, StepOutside}
 use Rattle.arrays.proofs.RoundTrip.{flight-again}
 use Rattle.arrays.specs.Airframe.{airframeIn, airframeNumbersCount}
 use Rattle.arrays.specs.Flight.{flightIn, tickIn}
-use Rattle.flight.specs.Envelope.{isInside}
 use Rattle.flight.specs.declared.Flight.{Flight}
 use Rattle.flight.specs.declared.Tick.{Tick}
-use Rattle.float.proofs.Tests.{either}
-use Rattle.float.specs.Interval.{inside}
-use Rattle.lag.specs.Lag.{stepLeast, stepMost}
 use Rattle.motors.specs.Motor.{spinOf}
+use Rattle.ordered.proofs.Ordered.{some-eqb}
 use Rattle.run.proofs.Calls.{OneCall, chain-calls}
 use Rattle.run.specs.Calls.{Chain, Each}
 use Rattle.run.specs.Run.{callsOf}
 use Rattle.surfaces.specs.Surface.{moveTo}
-use Rattle.wing.specs.Tick.{acceptedTick, movedOf, nextFrom, nextOf, refusedOf, spunOf, steppedOf, tickOf, unlessDeparted}
+use Rattle.wing.proofs.Passed.{of-tick}
+use Rattle.wing.specs.Tick.{movedOf, nextFrom, nextOf, refusedOf, spunOf, steppedOf, tickOf}
 use Rattle.wing.specs.declared.Ticked.{Ticked}
 use Rattle.bench_c.specs.Library.{ArrayCall, Tells, TickOutcome, isDone, stateAfterTick, tested, tick, tickLengths, tickPrepared, tickedBy}
 
@@ -44,14 +40,7 @@ unfolding stateAfterTick nextOf nextFrom steppedOf spunOf movedOf spinOf moveTo
 next-left a state f t = flight-again _ refl refl
 
 tick-left : (a : Airframe) (state : List Float) (t : Tick) → Left state (tickOf a (flightIn state) t)
-unfolding tickOf acceptedTick unlessDeparted
-tick-left a state t =
-    let f = flightIn state in
-    either (Left state) (eqb (refusedPlace a) 0)
-    (either (Left state) (isInside f)
-    (either (Left state) (inside stepLeast stepMost (t .«step_s»)) (either (Left state) (isInside (nextOf a f t .flight)) (next-left a state f t) (refused-left state Departure refl)) (refused-left state StepOutside refl))
-    (refused-left state StateOutside refl))
-    (refused-left state (NumberOutOfRange (refusedPlace a)) refl)
+tick-left a state t = of-tick (Left state) a (flightIn state) t (λ x n. refused-left state x (some-eqb (numberOf x) n)) (λ p. next-left a state (flightIn state) t)
 
 -- ---- one call that ticks with the airframe a, whatever form it has
 abbrev TicksWith : Airframe → (List Float → List Float → List Float → TickOutcome) → Type 0

@@ -1,11 +1,12 @@
 -- Demand 3 of the arrays that a pair leaves. Assumes nothing.
-use Prim.Native.Nat.{_*_, _+_, suc, ℕ}
+use Prim.Native.Nat.{_*_, _+_, ℕ}
 use borrow.Author.Tests.{eq-eqb, eqb-true}
 use lib.Dec.{eqb}
 use lib.Ieee.{Float}
 use mathlib.Core.Bool.{Bool, cond, false, true}
 use mathlib.Core.List.{List}
 use mathlib.Core.Path.{_∙_, _≡_, ap, refl, sym}
+use native.Mathlib.Nat.{suc-ne-zero}
 use native.Mathlib.Omega.{arith}
 use Rattle.airframe.specs.Acceptance.{refusedPlace}
 use Rattle.airframe_block.proofs.Reading.{accepted-is-accepted}
@@ -13,7 +14,7 @@ use Rattle.airframe_block.specs.Block.{readAirframeOf}
 use Rattle.airframe_block.specs.declared.AirframeRead.{AirframeRead}
 use Rattle.answers.specs.Answers.{numberOf, placeOf}
 use Rattle.answers.specs.declared.Answer.{Answer}
-use Rattle.answers.specs.declared.Answer.the-variants.{Departure, Done, NumberOutOfRange, ReservedBit, StateOutside, StepOutside, TooManyRows, WrongFalloff, WrongLength, WrongVersion}
+use Rattle.answers.specs.declared.Answer.the-variants.{Departure, Done, NumberOutOfRange, ReservedBit, StateOutside, StepOutside, TooManyRows, WindUnusable, WrongFalloff, WrongLength, WrongVersion}
 use Rattle.arrays.specs.Flight.{flightIn, flightNumbers, quatIn, slotsIn, vecIn}
 use Rattle.flight.proofs.Mirror.{reflect-flight}
 use Rattle.flight.specs.Envelope.{outsideOf}
@@ -44,20 +45,18 @@ number-none x e = go (numberOf x) (placeOf x) e
     go : (n p : ℕ) → n + 16 * p ≡ 0 → n ≡ 0
     go n p e = omega (arith, e)
 
-pub positive : (n : ℕ) → suc n ≡ 0 → ⊥
-positive n e = omega arith
-
 number-done : (x : Answer) → numberOf x ≡ 0 → x ≡ Done
 number-done Done e = refl
-number-done WrongLength e = absurd (positive 0 e)
-number-done WrongVersion e = absurd (positive 1 e)
-number-done WrongFalloff e = absurd (positive 2 e)
-number-done ReservedBit e = absurd (positive 3 e)
-number-done TooManyRows e = absurd (positive 4 e)
-number-done (NumberOutOfRange p) e = absurd (positive 5 e)
-number-done StateOutside e = absurd (positive 6 e)
-number-done StepOutside e = absurd (positive 7 e)
-number-done Departure e = absurd (positive 8 e)
+number-done WrongLength e = absurd (suc-ne-zero 0 e)
+number-done WrongVersion e = absurd (suc-ne-zero 1 e)
+number-done WrongFalloff e = absurd (suc-ne-zero 2 e)
+number-done ReservedBit e = absurd (suc-ne-zero 3 e)
+number-done TooManyRows e = absurd (suc-ne-zero 4 e)
+number-done (NumberOutOfRange p) e = absurd (suc-ne-zero 5 e)
+number-done StateOutside e = absurd (suc-ne-zero 6 e)
+number-done StepOutside e = absurd (suc-ne-zero 7 e)
+number-done Departure e = absurd (suc-ne-zero 8 e)
+number-done WindUnusable e = absurd (suc-ne-zero 9 e)
 
 -- ---- a run that answers 0 is of a block that was read
 ran-of : (w : Bool) (x : AirframeRead) (f : Flight) (r : Ran) → numberOf (cond w (cond (isDone (x .answer)) r (ended (x .answer) f 0)) (ended WrongLength f 0) .answer) ≡ 0 → numberOf (x .answer) ≡ 0
@@ -67,7 +66,7 @@ ran-of true x f r e = go (isDone (x .answer)) refl e
     go : (t : Bool) → isDone (x .answer) ≡ t → numberOf (cond t r (ended (x .answer) f 0) .answer) ≡ 0 → numberOf (x .answer) ≡ 0
     go true d e = eqb-true _ _ d
     go false d e = e
-ran-of false x f r e = absurd (positive 0 e)
+ran-of false x f r e = absurd (suc-ne-zero 0 e)
 
 ran-read : (x : AirframeRead) (f : Flight) (trace : List ℕ) → numberOf (ranBy x f trace .answer) ≡ 0 → numberOf (x .answer) ≡ 0
 unfolding ranBy

@@ -1,3 +1,4 @@
--- The table, computed; and the cases that leave a number open.
+-- The table, computed; the cases that leave a number open; and the limit of the wind.
 pub mod Computed
 pub mod Wide
+pub mod Wind

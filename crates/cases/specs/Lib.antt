@@ -1,3 +1,4 @@
 -- The proved cases. Definitions only.
 pub mod Table
 pub mod Wide
+pub mod Wind

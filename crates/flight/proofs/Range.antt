@@ -1,15 +1,31 @@
--- What a state inside the envelope tells of its running values. Assumes nothing.
+-- What a state inside the envelope tells of its velocity, its attitude's N and its running values. Assumes nothing.
 use Prim.Native.Nat.{_<_, ℕ}
-use mathlib.Core.Path.{_≡_}
+use borrow.Author.Tests.{eq-eqb}
+use mathlib.Core.Path.{_∙_, _≡_, sym}
 use Rattle.float.proofs.Bounds.{inside-within}
 use Rattle.ordered.proofs.Ordered.{after-none, all-pass, or-none}
 use Rattle.float.specs.Interval.{Within}
-use Rattle.float.specs.Notation.{minusOne, nought, one}
+use Rattle.float.specs.Notation.{minusOne, nought, one, rounded}
 use Rattle.mixers.specs.Slots.{at}
+use Rattle.vector.proofs.Range.{VecWithin, vec-within}
+use Rattle.vector.specs.Rotation.{quatNorm}
+use Rattle.flight.proofs.Inside.{none-attitude, none-vec}
 use Rattle.flight.specs.Envelope.{outsideOf, slotInside, slotsOutside}
 use Rattle.flight.specs.declared.Flight.{Flight}
 
 module _ (f : Flight) (e : outsideOf f ≡ 0) where
+  pub velocity-within : VecWithin (rounded 1000 1) (f .body .«velocity_ned_mps»)
+  unfolding outsideOf
+  velocity-within =
+      let v = after-none _ _ (or-none _ _ (or-none _ _ e .1) .0) in
+      vec-within _ _ (sym (none-vec _ _) ∙ eq-eqb _ _ v)
+
+  pub norm-within : Within (rounded 9 10) (rounded 11 10) (quatNorm (f .body .attitude))
+  unfolding outsideOf
+  norm-within =
+      let n = after-none _ _ (or-none _ _ (or-none _ _ (or-none _ _ e .1) .1) .0) in
+      inside-within (sym (none-attitude _) ∙ eq-eqb _ _ n)
+
   slots-none : (slotsOutside nought one (f .motors) ≡ 0) × (slotsOutside minusOne one (f .servos) ≡ 0)
   unfolding outsideOf
   slots-none =

@@ -1,18 +1,19 @@
 -- What an operation gives on an interval lies between what it gives at the interval's ends. Assumes nothing.
 use Prim.Native.Nat.{_*_, _+_, ℕ}
 use lib.Dec.{T}
-use lib.Ieee.{Float, Format, add, div, fits, le, mul, sub}
+use lib.Ieee.{Float, Format, add, div, fits, isNan, le, lt, mul, sub}
 use lib.Ieee.Positive.{den, den-pos, positive}
 use lib.Ieee.Scale.{finite}
+use mathlib.Core.Bool.{Bool, cond, false, not, true}
 use mathlib.Core.Path.{_≡_, refl, subst, sym}
 use native.Mathlib.Nat.{mul-pos}
 use native.Mathlib.Omega.{arith}
 use Rattle.float.proofs.Exact.{rounds-ge, rounds-le}
-use Rattle.float.proofs.Order.{Cross, finite-between, le-self, le-trans-float, nn, pp}
+use Rattle.float.proofs.Order.{Cross, finite-between, finite-number, le-self, le-trans-float, nn, not-lt→le, pp}
 use Rattle.float.proofs.Rounding.{add-mono-r, div-rounds, divide-mono, mul-anti-r, mul-mono-l, mul-mono-r, mul-rounds, no-minus, no-plus, pp-pos, sub-mono}
 use Rattle.float.proofs.Zeros.{le-num}
 use Rattle.float.specs.Interval.{Within}
-use Rattle.float.specs.Notation.{nought}
+use Rattle.float.specs.Notation.{clamp, nought}
 use Rattle.float.specs.Same.{num}
 
 -- ---- the products' signs
@@ -83,3 +84,13 @@ div-in f xh x yl y p q r z w h =
 -- the sign of a zero does not matter
 pub within-num : {lo hi x y : Float} → num x ≡ num y → Within lo hi y → Within lo hi x
 within-num {lo} {hi} {x} {y} e w = record { at-least = subst T (sym (le-num lo lo x y refl e)) (w .at-least); at-most = subst T (sym (le-num x y hi hi e refl)) (w .at-most) }
+
+-- what is clamped lies between the bounds
+pub clamp-in : (lo hi x : Float) → T (finite lo) → T (finite hi) → T (le lo hi) → T (not (isNan x)) → Within lo hi (clamp lo hi x)
+unfolding clamp
+clamp-in lo hi x p q m n = go (lt x lo) (lt hi x) (not-lt→le x lo n (finite-number lo p)) (not-lt→le hi x (finite-number hi q) n)
+  where
+    go : (a b : Bool) → (T (not a) → T (le lo x)) → (T (not b) → T (le x hi)) → Within lo hi (cond a lo (cond b hi x))
+    go true b h k = record { at-least = le-self lo p; at-most = m }
+    go false true h k = record { at-least = m; at-most = le-self hi q }
+    go false false h k = record { at-least = h tt; at-most = k tt }

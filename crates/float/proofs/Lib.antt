@@ -6,6 +6,7 @@ pub mod Rounding
 pub mod Exact
 pub mod HalfUnit
 pub mod Interval
+pub mod Sizes
 pub mod Truncation
 pub mod Tests
 pub mod Mirror

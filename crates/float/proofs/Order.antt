@@ -1,7 +1,7 @@
 -- The order of floats: of finite values as fractions (pp - nn) / den, of all values by `le` and `lt`; it turns round under `neg`. Assumes nothing.
 use Prim.Native.Nat.{_*_, _+_, _<_, _≤_, ℕ}
 use lib.Dec.{T, T-not, eqb, eqb-refl, eqb→eq, leb, leb→le, ltb, ltb→lt, lt→ltb, nleb→lt, nltb→le, not-T}
-use lib.Ieee.{Float, below, down, fin, inf, isNan, le, level, lt, nan, ne, neg, up}
+use lib.Ieee.{Float, below, down, eq, fin, inf, isNan, le, level, lt, nan, ne, neg, up}
 use lib.Ieee.Fits.{and-i, and-l, and-r, eq→eqb}
 use lib.Ieee.Positive.{den, den-pos}
 use lib.Ieee.Scale.{finite}
@@ -109,6 +109,10 @@ snlt→ true a false b h = omega (arith, nltb→le 0 (a + b) h)
 snlt→ true a true b h = omega (arith, nltb→le b a h)
 
 -- where `lt` fails between numbers, the order is the other way
+pub lt→le : (x y : Float) → T (lt x y) → T (le x y)
+unfolding le
+lt→le x y h = or-i (lt x y) (eq x y) (inl h)
+
 pub not-lt→le : (x y : Float) → T (not (isNan x)) → T (not (isNan y)) → T (not (lt x y)) → T (le y x)
 unfolding lt isNan le
 not-lt→le nan y p q h = absurd p

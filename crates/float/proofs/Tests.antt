@@ -5,7 +5,7 @@ use lib.Ieee.Fits.{and-l, and-r}
 use mathlib.Core.Bool.{Bool, _&&_, cond, false, true}
 use mathlib.Core.List.{List, [], _∷_}
 use mathlib.Core.Logic.{inl, inr}
-use mathlib.Core.Path.{subst, sym}
+use mathlib.Core.Path.{_≡_, refl, subst, sym}
 use native.Mathlib.Nat.{eq-or-lt-of-le, le-of-suc-le-suc}
 use native.Mathlib.Omega.{arith}
 
@@ -13,6 +13,11 @@ use native.Mathlib.Omega.{arith}
 pub either : {X : Type 0} (P : X → Type 0) (t : Bool) {x y : X} → P x → P y → P (cond t x y)
 either P true p q = p
 either P false p q = q
+
+-- and the first side may know that the test passed
+pub by-cases : {X : Type 0} (P : X → Type 0) {x y : X} (b : Bool) → (b ≡ true → P x) → P y → P (cond b x y)
+by-cases P true h k = h refl
+by-cases P false h k = k
 
 -- ---- many tests at once
 abbrev pub allb : List Bool → Bool

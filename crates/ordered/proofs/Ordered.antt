@@ -4,7 +4,7 @@ use lib.Dec.{eqb, eqb·suc-zero}
 use mathlib.Core.Bool.{Bool, cond, false, false≢true, not, true}
 use mathlib.Core.Logic.{_⊎_, inl, inr}
 use mathlib.Core.Path.{_∙_, _≡_, ap, ap₂, refl, sym}
-use native.Mathlib.Nat.{eq-or-lt-of-le, zero-add}
+use native.Mathlib.Nat.{eq-or-lt-of-le, suc-ne-zero, zero-add}
 use native.Mathlib.Numerals.{add-one}
 use native.Mathlib.Omega.{arith}
 use Rattle.ordered.specs.Contracts.{allPass}
@@ -38,10 +38,7 @@ fail-end ok i n l = ap (firstFail ok i) (none i n l)
 -- ---- where none fails, each holds
 cond-none : (b : Bool) (x y : ℕ) → cond b x (suc y) ≡ 0 → (b ≡ true) × (x ≡ 0)
 cond-none true x y e = (refl, e)
-cond-none false x y e = absurd (none y e)
-  where
-    none : (y : ℕ) → suc y ≡ 0 → ⊥
-    none y e = omega arith
+cond-none false x y e = absurd (suc-ne-zero y e)
 
 all-hold : (ok : ℕ → Bool) (i n : ℕ) → firstFail ok i n ≡ 0 → (k : ℕ) → k < n → ok (i + k) ≡ true
 unfolding firstFail
@@ -109,10 +106,7 @@ fail-same {ok} {ok'} i (suc n) h = ap₂ (λ (b : Bool) (x : ℕ). cond b x (suc
 pub or-none : (a b : ℕ) → orElse a b ≡ 0 → (a ≡ 0) × (b ≡ 0)
 unfolding orElse
 or-none zero b e = (refl, e)
-or-none (suc a) b e = absurd (none a (sym (ap (λ (t : Bool). cond t b (suc a)) (eqb·suc-zero a)) ∙ e))
-  where
-    none : (a : ℕ) → suc a ≡ 0 → ⊥
-    none a e = omega arith
+or-none (suc a) b e = absurd (suc-ne-zero a (sym (ap (λ (t : Bool). cond t b (suc a)) (eqb·suc-zero a)) ∙ e))
 
 pub after-none : (n f : ℕ) → after n f ≡ 0 → f ≡ 0
 unfolding after

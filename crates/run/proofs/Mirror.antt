@@ -3,8 +3,7 @@ use Prim.Native.Nat.{_+_, ℕ}
 use mathlib.Core.Bool.{Bool, cond, false, true}
 use mathlib.Core.List.{List, [], _∷_, map}
 use mathlib.Core.Path.{_∙_, _≡_, ap, ap₂, refl}
-use Rattle.airframe.proofs.Mirror.{reflect-airframe, refused-place-is}
-use Rattle.airframe.specs.Acceptance.{refusedPlace}
+use Rattle.airframe.proofs.Mirror.{reflect-airframe}
 use Rattle.airframe.specs.Reflection.{AirframeRel, reflectAirframe}
 use Rattle.airframe.specs.declared.Airframe.{Airframe}
 use Rattle.answers.specs.Answers.{numberOf, placeOf}
@@ -19,13 +18,14 @@ use Rattle.motors.proofs.Range as Group
 use Rattle.motors.proofs.Range.{still-after, still-same}
 use Rattle.wing.proofs.Mirror.{tick-mirror}
 use Rattle.wing.proofs.Range.{accepted-running, tick-keeps}
+use Rattle.wing.proofs.Wind.{tick-angles}
 use Rattle.wing.specs.Reflection.{TickedRel}
 use Rattle.wing.proofs.Running.{Held, Running, Still}
 use Rattle.wing.specs.Tick.{tickOf}
 use Rattle.wing.specs.declared.Ticked.{Ticked}
 use Rattle.run.proofs.Calls.{is-its-calls}
 use Rattle.run.specs.Calls.{Each, each-more, each-none}
-use Rattle.run.specs.Mirrored.{Agree, All, InRange, Mirrored, RanRel, Ranges, all-more, all-none}
+use Rattle.run.specs.Mirrored.{Agree, All, Angles, InRange, Mirrored, RanRel, Ranges, all-more, all-none}
 use Rattle.run.specs.Run.{Progress, callsOf, ended, isWhole, oneIfDone, progressed, ranOver, runFrom, runOf}
 
 -- ---- the ticks of a reflected list
@@ -86,24 +86,30 @@ in-range a start f r s = record { motors = Group.in-range (r .motors) (s .motors
 still-more : {a : Airframe} {start f g : Flight} → Still a start f → Still a f g → Still a start g
 still-more s t = record { motors = still-after (s .motors) (t .motors) }
 
-ranges-from : (a : Airframe) (start f : Flight) (ts : List Tick) → refusedPlace a ≡ 0 → Held f → Running f → Still a start f
+ranges-from : (a : Airframe) (start f : Flight) (ts : List Tick) → Held f → Running f → Still a start f
     → All (λ (k : Ticked). InRange a start (k .flight)) (callsOf a f ts)
 unfolding callsOf
-ranges-from a start f [] e g r s = all-none
-ranges-from a start f (t ∷ ts) e g r s =
-    let k = tick-keeps a f t e g r in
+ranges-from a start f [] g r s = all-none
+ranges-from a start f (t ∷ ts) g r s =
+    let k = tick-keeps a f t g r in
     let u = still-more s (k .still) in
-    all-more (in-range a start (tickOf a f t .flight) (k .running) u) (ranges-from a start (tickOf a f t .flight) ts e (k .held) (k .running) u)
+    all-more (in-range a start (tickOf a f t .flight) (k .running) u) (ranges-from a start (tickOf a f t .flight) ts (k .held) (k .running) u)
 
-pub ranges : (a : Airframe) (s : Flight) (ts : List Tick) → refusedPlace a ≡ 0 → outsideOf s ≡ 0 → Held s → Ranges a s ts
-ranges a s ts e o g =
+-- the angles, of any run
+angles-from : (a : Airframe) (f : Flight) (ts : List Tick) → All (λ (k : Ticked). Angles (k .report)) (callsOf a f ts)
+unfolding callsOf
+angles-from a f [] = all-none
+angles-from a f (t ∷ ts) = let x = tick-angles a f t in all-more (record { alpha = x .0; beta = x .1 }) (angles-from a (tickOf a f t .flight) ts)
+
+pub ranges : (a : Airframe) (s : Flight) (ts : List Tick) → outsideOf s ≡ 0 → Held s → Ranges a s ts
+ranges a s ts o g =
     let r = accepted-running s o in
     let still : Still a s s = record { motors = still-same _ _ } in
-    record { at-start = in-range a s s r still; after-each = ranges-from a s s ts e g r still }
+    record { at-start = in-range a s s r still; after-each = ranges-from a s s ts g r still; angles = angles-from a s ts }
 
 -- ---- demand 3. `Held s` is what the type of a state tells: its motors' running values are 32-bit floats
-pub mirrored : (a : Airframe) (s : Flight) (ts : List Tick) → refusedPlace a ≡ 0 → outsideOf s ≡ 0 → Held s → Mirrored a s ts
-mirrored a s ts e o g =
+pub mirrored : (a : Airframe) (s : Flight) (ts : List Tick) → outsideOf s ≡ 0 → Held s → Mirrored a s ts
+mirrored a s ts o g =
     let A = reflect-airframe a in
     let S = reflect-flight s in
     let T = ticks-mirror ts in
@@ -115,8 +121,8 @@ mirrored a s ts e o g =
       at-start = S;
       at-end = r .0;
       count = r .1;
-      ranges = ranges a s ts e o g;
-      ranges-reflected = ranges (reflectAirframe a) (reflectFlight s) (map reflectTick ts) (refused-place-is A ∙ e) (outside-is S ∙ o) (held-reflected s g);
+      ranges = ranges a s ts o g;
+      ranges-reflected = ranges (reflectAirframe a) (reflectFlight s) (map reflectTick ts) (outside-is S ∙ o) (held-reflected s g);
     }
   where
     held-reflected : (s : Flight) → Held s → Held (reflectFlight s)

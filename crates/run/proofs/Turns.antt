@@ -1,7 +1,6 @@
 -- A loop over a trace's ticks: one turn, and the end. Assumes nothing.
 use Prim.Native.Nat.{_*_, _+_, _-_, _<_, _≤_, suc, ℕ}
-use lib.Dec.{eqb}
-use mathlib.Core.Bool.{Bool, cond, false, true}
+use mathlib.Core.Bool.{Bool, false, true, true≢false}
 use mathlib.Core.List.{List, [], _∷_, map}
 use mathlib.Core.Path.{_∙_, _≡_, ap, ap₂, refl, sym}
 use native.Mathlib.Nat.{add-zero}
@@ -9,16 +8,16 @@ use native.Mathlib.Numerals.{add-one}
 use native.Mathlib.Omega.{arith}
 use Rattle.airframe.specs.Acceptance.{refusedPlace}
 use Rattle.airframe.specs.declared.Airframe.{Airframe}
-use Rattle.answers.specs.declared.Answer.the-variants.{Departure, StepOutside}
+use Rattle.answers.specs.Answers.{numberOf}
+use Rattle.answers.specs.declared.Answer.{Answer}
 use Rattle.flight.specs.Envelope.{isInside}
 use Rattle.flight.specs.Reflection.{reflectTick}
 use Rattle.flight.specs.declared.Flight.{Flight}
 use Rattle.flight.specs.declared.Tick.{Tick}
 use Rattle.ordered.proofs.Ordered.{some-eqb}
-use Rattle.float.specs.Interval.{inside}
-use Rattle.lag.specs.Lag.{stepLeast, stepMost}
 use Rattle.state_block.specs.Layout.{tickBytes, tickFrom}
-use Rattle.wing.specs.Tick.{acceptedTick, unlessDeparted, nextOf, refusedOf, tickOf}
+use Rattle.wing.proofs.Passed.{Passed, of-tick}
+use Rattle.wing.specs.Tick.{refusedOf, tickOf, windUsable}
 use Rattle.wing.specs.declared.Ticked.{Ticked}
 use Rattle.run.specs.Contracts.{reflectedIf}
 use Rattle.run.specs.Run.{Progress, oneIfDone, progressed, runFrom, ticksFrom}
@@ -41,39 +40,36 @@ turned r a s i n p l = ap (λ (m : ℕ). runFrom a p (map (reflectedIf r) (ticks
     none : (i n : ℕ) → n ≤ i → n - i ≡ 0
     none i n l = omega arith
 
-refused-stays : (a : Airframe) (p : Progress) (t : Tick) → eqb (refusedPlace a) 0 ≡ false → progressed a p t ≡ p
-unfolding progressed tickOf refusedOf oneIfDone
-refused-stays a p t e = rw (e, add-zero)
+-- a tick that cannot pass every test leaves state and count
+stays : (a : Airframe) (p : Progress) (t : Tick) → (Passed a (p .flight) t → ⊥) → progressed a p t ≡ p
+unfolding progressed refusedOf oneIfDone
+stays a p t fails = of-tick After a (p .flight) t (λ x n. refused x n) (λ q. absurd (fails q))
+  where
+    After : Ticked → Type 0
+    After k = _≡_ {A = Progress} (record { flight = k .flight; accepted = p .accepted + oneIfDone (k .report .answer) }) p
 
--- of a refused one every tick hands back its state, and none is accepted
+    refused : (x : Answer) → (numberOf x ≡ 0 → ⊥) → After (refusedOf x (p .flight))
+    refused x n = rw (some-eqb (numberOf x) n, add-zero)
+
+stays-all : (a : Airframe) (p : Progress) (ts : List Tick) → ((t : Tick) → Passed a (p .flight) t → ⊥) → runFrom a p ts ≡ p
+unfolding runFrom
+stays-all a p [] fails = refl
+stays-all a p (t ∷ ts) fails = ap (λ (q : Progress). runFrom a q ts) (stays a p t (fails t)) ∙ stays-all a p ts fails
+
+-- so it is of a refused airframe, from a state outside the envelope, and in an unusable wind (02, 1)
 pub refused-run : (a : Airframe) (p : Progress) (ts : List Tick) → (refusedPlace a ≡ 0 → ⊥) → runFrom a p ts ≡ p
-unfolding runFrom
-refused-run a p [] n = refl
-refused-run a p (t ∷ ts) n = ap (λ (q : Progress). runFrom a q ts) (refused-stays a p t (some-eqb (refusedPlace a) n)) ∙ refused-run a p ts n
+refused-run a p ts n = stays-all a p ts (λ t q. n (q .airframe))
 
--- from a state outside the envelope, too
-outside-stays : (a : Airframe) (p : Progress) (t : Tick) → refusedPlace a ≡ 0 → isInside (p .flight) ≡ false → progressed a p t ≡ p
-unfolding progressed tickOf acceptedTick refusedOf oneIfDone
-outside-stays a p t e o = rw (e, o, add-zero)
+pub outside-run : (a : Airframe) (p : Progress) (ts : List Tick) → isInside (p .flight) ≡ false → runFrom a p ts ≡ p
+outside-run a p ts o = stays-all a p ts (λ t q. true≢false (sym (q .state) ∙ o))
 
-pub outside-run : (a : Airframe) (p : Progress) (ts : List Tick) → refusedPlace a ≡ 0 → isInside (p .flight) ≡ false → runFrom a p ts ≡ p
-unfolding runFrom
-outside-run a p [] e o = refl
-outside-run a p (t ∷ ts) e o = ap (λ (q : Progress). runFrom a q ts) (outside-stays a p t e o) ∙ outside-run a p ts e o
+pub wind-stays : (a : Airframe) (p : Progress) (t : Tick) → windUsable (t .«wind_ned_mps») ≡ false → progressed a p t ≡ p
+wind-stays a p t w = stays a p t (λ q. true≢false (sym (q .wind) ∙ w))
 
 -- a state inside the envelope is followed by one inside: itself, or one that passed test 9
-kept-inside : (f : Flight) (n : Ticked) (t : Bool) → isInside (n .flight) ≡ t → isInside f ≡ true → isInside (cond t n (refusedOf Departure f) .flight) ≡ true
+pub stays-inside : (a : Airframe) (f : Flight) (t : Tick) → isInside f ≡ true → isInside (tickOf a f t .flight) ≡ true
 unfolding refusedOf
-kept-inside f n true e i = e
-kept-inside f n false e i = i
-
-pub stays-inside : (a : Airframe) (f : Flight) (t : Tick) → refusedPlace a ≡ 0 → isInside f ≡ true → isInside (tickOf a f t .flight) ≡ true
-unfolding tickOf acceptedTick unlessDeparted refusedOf
-stays-inside a f t e i = rw (e, i) (go (inside stepLeast stepMost (t .«step_s»)))
-  where
-    go : (b : Bool) → isInside (cond b (cond (isInside (nextOf a f t .flight)) (nextOf a f t) (refusedOf Departure f)) (refusedOf StepOutside f) .flight) ≡ true
-    go true = kept-inside f (nextOf a f t) _ refl i
-    go false = i
+stays-inside a f t i = of-tick (λ (k : Ticked). isInside (k .flight) ≡ true) a f t (λ x n. i) (λ p. p .next)
 
 -- what a turn of the loop keeps is the run's progress
 pub progress : (a : Airframe) (p : Progress) (t u : Tick) (k : Ticked) (n : ℕ) → u ≡ t → k ≡ tickOf a (p .flight) u → n ≡ oneIfDone (k .report .answer)

@@ -6,6 +6,8 @@
 -- tick starts from what the tick before it handed back. `callsOf` is each call's report and state, `runOf` a run's last state and
 -- count, `ranOf` the run that gets all bytes of a trace at once: all by demand 2's definition (Run.antt). Definitions only.
 use Prim.Native.Nat.{_<_, ℕ}
+use lib.Dec.{T}
+use lib.Ieee.Scale.{finite}
 use mathlib.Core.Bool.{false, true}
 use mathlib.Core.List.{List, [], _∷_, map}
 use mathlib.Core.Path.{_≡_}
@@ -22,6 +24,7 @@ use Rattle.float.specs.Notation.{minusOne, one}
 use Rattle.float.specs.Same.{Rel}
 use Rattle.mixers.specs.Slots.{at}
 use Rattle.motors.specs.Running.{MotorsInRange}
+use Rattle.wing.specs.declared.Report.{Report}
 use Rattle.wing.specs.declared.Ticked.{Ticked}
 use Rattle.run.specs.Calls.{Each}
 use Rattle.run.specs.Run.{acceptedIn, callsOf, ranOf, reflectTrace, runOf, stateAfter, ticksOf}
@@ -48,10 +51,16 @@ pub record InRange (a : Airframe) (start f : Flight) : Type 0 where
   pub motors : MotorsInRange (a .motors .used) (start .motors) (f .motors)
   pub surface : (k : ℕ) → k < 8 → Within minusOne one (at (f .servos) k)
 
--- one run: before its first tick and after every tick the running values are in range
+-- the angles of a report are numbers, neither a NaN nor infinite (02, 1)
+pub record Angles (r : Report) : Type 0 where
+  pub alpha : T (finite (r .«alpha_rad»))
+  pub beta : T (finite (r .«beta_rad»))
+
+-- one run: before its first tick and after every tick the running values are in range, and every report's angles are numbers
 pub record Ranges (a : Airframe) (s : Flight) (ts : List Tick) : Type 0 where
   pub at-start : InRange a s s
   pub after-each : All (λ (k : Ticked). InRange a s (k .flight)) (callsOf a s ts)
+  pub angles : All (λ (k : Ticked). Angles (k .report)) (callsOf a s ts)
 
 -- the run called once is its calls: its last state is the one that the last call handed back, its count how many answered 0
 pub record IsItsCalls (a : Airframe) (s : Flight) (ts : List Tick) : Type 0 where

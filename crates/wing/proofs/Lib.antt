@@ -1,5 +1,7 @@
 -- Laws of the tick.
+pub mod Passed
 pub mod Running
 pub mod Range
+pub mod Wind
 pub mod Mirror
 pub mod Steps

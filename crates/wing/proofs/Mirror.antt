@@ -15,7 +15,7 @@ use Rattle.airframe.specs.Acceptance.{refusedPlace}
 use Rattle.airframe.specs.Reflection.{AirframeRel}
 use Rattle.airframe.specs.declared.Airframe.{Airframe}
 use Rattle.answers.specs.declared.Answer.{Answer}
-use Rattle.answers.specs.declared.Answer.the-variants.{Departure, NumberOutOfRange, StateOutside, StepOutside}
+use Rattle.answers.specs.declared.Answer.the-variants.{Departure, NumberOutOfRange, StateOutside, StepOutside, WindUnusable}
 use Rattle.body.proofs.Mirror.{air-velocity-mirror, step-mirror}
 use Rattle.body.specs.Reflection.{BodyRel}
 use Rattle.body.specs.declared.Body.{Body}
@@ -38,13 +38,13 @@ use Rattle.surfaces.proofs.Mirror.{SurfacesRel, deflection-mirror, move-mirror}
 use Rattle.surfaces.specs.Surface.{moveTo}
 use Rattle.surfaces.specs.declared.Surfaces.{Surfaces}
 use Rattle.tailsitter_model.proofs.Mirror.{wash-is}
-use Rattle.vector.proofs.Mirror.{add-mirror, inverse-rotate-mirror, rotate-mirror, vec-mirror, zero-mirror}
+use Rattle.vector.proofs.Mirror.{add-mirror, inverse-rotate-mirror, rotate-mirror, vec-inside-is, vec-mirror, zero-mirror}
 use Rattle.vector.specs.Reflection.{QuatRel, VecRel}
 use Rattle.vector.specs.declared.Quaternion.{Quaternion}
 use Rattle.vector.specs.declared.Vec3.{Vec3}
 use Rattle.wing.specs.Loads.{aeroOf, airOf, withThrust, loadsOf, motorsFor, pullOf, surfacesFor, washFor}
 use Rattle.wing.specs.Reflection.{LoadedRel, TickedRel}
-use Rattle.wing.specs.Tick.{airDensity, acceptedTick, unlessDeparted, massOf, movedOf, nextFrom, nextOf, refusedOf, spunOf, steppedOf, tickOf}
+use Rattle.wing.specs.Tick.{airDensity, acceptedTick, unlessDeparted, massOf, movedOf, nextFrom, nextOf, refusedOf, spunOf, steppedOf, tickOf, windMost, windUsable}
 use Rattle.wing.specs.declared.Loaded.{Loaded}
 use Rattle.wing.specs.declared.Ticked.{Ticked}
 
@@ -148,11 +148,17 @@ unless-departed-mirror : {f f' : Flight} {n n' : Ticked} → FlightRel f f' → 
 unfolding unlessDeparted
 unless-departed-mirror {f} {f'} {n} {n'} h k = by-test TickedRel (isInside (n .flight)) (isInside (n' .flight)) (inside-is (k .flight)) (λ t. k) (λ t. refused-mirror Departure h)
 
+wind-usable-is : {w w' : Vec3} → VecRel false w w' → windUsable w' ≡ windUsable w
+unfolding windUsable
+wind-usable-is h = vec-inside-is windMost h
+
 pub accepted-mirror : {a a' : Airframe} {f f' : Flight} {t t' : Tick} → AirframeRel a a' → FlightRel f f' → TickRel t t' → TickedRel (acceptedTick a f t) (acceptedTick a' f' t')
 unfolding acceptedTick
 accepted-mirror {a} {a'} {f} {f'} {t} {t'} h k w =
     by-test TickedRel (isInside f) (isInside f') (inside-is k)
-    (λ u. by-test TickedRel (inside stepLeast stepMost (t .«step_s»)) (inside stepLeast stepMost (t' .«step_s»)) (ap (inside stepLeast stepMost) (w .step)) (λ v. unless-departed-mirror k (next-mirror h k w)) (λ v. refused-mirror StepOutside k))
+    (λ u. by-test TickedRel (inside stepLeast stepMost (t .«step_s»)) (inside stepLeast stepMost (t' .«step_s»)) (ap (inside stepLeast stepMost) (w .step))
+    (λ v. by-test TickedRel (windUsable (t .«wind_ned_mps»)) (windUsable (t' .«wind_ned_mps»)) (wind-usable-is (w .wind)) (λ x. unless-departed-mirror k (next-mirror h k w)) (λ x. refused-mirror WindUnusable k))
+    (λ v. refused-mirror StepOutside k))
     (λ u. refused-mirror StateOutside k)
 
 pub tick-mirror : {a a' : Airframe} {f f' : Flight} {t t' : Tick} → AirframeRel a a' → FlightRel f f' → TickRel t t' → TickedRel (tickOf a f t) (tickOf a' f' t')

@@ -1,19 +1,16 @@
 -- Where a tick leaves the running values, by the lag's rounding bound and not by test 9: of an accepted airframe and an accepted step, from motors in 0..1 and surfaces in -1..1, the next
 -- state's lie there again, and an unused motor runs as before. So test 9 never fires on a running value. Assumes nothing.
 use Prim.Native.Nat.{_<_, ℕ}
-use lib.Dec.{eqb}
 use lib.Ieee.{Float, nan}
-use mathlib.Core.Bool.{Bool, cond, false, true}
+use mathlib.Core.Bool.{true}
 use mathlib.Core.List.{[]}
 use mathlib.Core.Path.{_≡_, refl, subst, sym}
 use native.Mathlib.Omega.{arith}
 use Rattle.airframe.proofs.Range.{motor-constant-in, servo-constant-in}
 use Rattle.airframe.specs.Acceptance.{refusedPlace}
 use Rattle.airframe.specs.declared.Airframe.{Airframe}
-use Rattle.answers.specs.declared.Answer.{Answer}
-use Rattle.answers.specs.declared.Answer.the-variants.{Departure, NumberOutOfRange, StateOutside, StepOutside}
 use Rattle.flight.proofs.Range.{motor-within, servo-within}
-use Rattle.flight.specs.Envelope.{isInside, outsideOf, slotInside, slotsOutside}
+use Rattle.flight.specs.Envelope.{outsideOf, slotInside, slotsOutside}
 use Rattle.flight.specs.declared.Flight.{Flight}
 use Rattle.flight.specs.declared.Tick.{Tick}
 use Rattle.float.proofs.Bounds.{inside-within, within-inside}
@@ -30,8 +27,9 @@ use Rattle.motors.specs.Motor.{lagFactor, spinOf}
 use Rattle.surfaces.proofs.Range.{move-in}
 use Rattle.surfaces.specs.Surface.{moveAt, moveTo}
 use Rattle.wing.specs.Loads.{motorsFor, surfacesFor}
+use Rattle.wing.proofs.Passed.{of-tick}
 use Rattle.wing.proofs.Running.{Held, Running, Still}
-use Rattle.wing.specs.Tick.{acceptedTick, unlessDeparted, movedOf, nextFrom, nextOf, refusedOf, spunOf, steppedOf, tickOf}
+use Rattle.wing.specs.Tick.{movedOf, nextFrom, nextOf, refusedOf, spunOf, steppedOf, tickOf}
 use Rattle.wing.specs.declared.Ticked.{Ticked}
 
 -- ---- the next state
@@ -73,24 +71,11 @@ pub record Keeps (a : Airframe) (f : Flight) (r : Ticked) : Type 0 where
   pub still : Still a f (r .flight)
   pub held : Held (r .flight)
 
-keeps-refused : (a : Airframe) (f : Flight) (x : Answer) → Held f → Running f → Keeps a f (refusedOf x f)
+pub tick-keeps : (a : Airframe) (f : Flight) (t : Tick) → Held f → Running f → Keeps a f (tickOf a f t)
 unfolding refusedOf
-keeps-refused a f x g r = record { running = r; still = record { motors = still-same _ _ }; held = g }
-
-by-cases : {X : Type 0} (P : X → Type 0) {x y : X} (b : Bool) → (b ≡ true → P x) → P y → P (cond b x y)
-by-cases P true h k = h refl
-by-cases P false h k = k
-
-pub tick-keeps : (a : Airframe) (f : Flight) (t : Tick) → refusedPlace a ≡ 0 → Held f → Running f → Keeps a f (tickOf a f t)
-unfolding tickOf acceptedTick unlessDeparted
-tick-keeps a f t e g r =
-    by-cases (Keeps a f) (eqb (refusedPlace a) 0)
-    (λ i. by-cases (Keeps a f) (isInside f)
-    (λ u. by-cases (Keeps a f) (inside stepLeast stepMost (t .«step_s»))
-    (λ s. by-cases (Keeps a f) (isInside (nextOf a f t .flight)) (λ v. record { running = next-running a f t e s g r; still = next-still a f t; held = next-held a f t g }) (keeps-refused a f Departure g r))
-    (keeps-refused a f StepOutside g r))
-    (keeps-refused a f StateOutside g r))
-    (keeps-refused a f (NumberOutOfRange (refusedPlace a)) g r)
+tick-keeps a f t g r =
+    of-tick (Keeps a f) a f t (λ x n. record { running = r; still = record { motors = still-same _ _ }; held = g })
+    (λ p. record { running = next-running a f t (p .airframe) (p .step) g r; still = next-still a f t; held = next-held a f t g })
 
 -- ---- an accepted state is in its ranges
 pub accepted-running : (f : Flight) → outsideOf f ≡ 0 → Running f

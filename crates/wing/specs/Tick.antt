@@ -1,12 +1,12 @@
--- The tick (01, module 8 and "What the bench replies"): tests 6, 7, 8, the step, test 9. Definitions only.
+-- The tick (01, module 8 and "What the bench replies"; 02, 1): tests 6, 7, 8, 10, the step, test 9. Definitions only.
 use lib.Dec.{eqb}
 use lib.Ieee.{Float}
-use mathlib.Core.Bool.{cond}
+use mathlib.Core.Bool.{Bool, cond}
 use mathlib.Core.List.{List}
 use Rattle.airframe.specs.Acceptance.{refusedPlace}
 use Rattle.airframe.specs.declared.Airframe.{Airframe}
 use Rattle.answers.specs.declared.Answer.{Answer}
-use Rattle.answers.specs.declared.Answer.the-variants.{Departure, Done, NumberOutOfRange, StateOutside, StepOutside}
+use Rattle.answers.specs.declared.Answer.the-variants.{Departure, Done, NumberOutOfRange, StateOutside, StepOutside, WindUnusable}
 use Rattle.body.specs.Motion.{stepOf}
 use Rattle.body.specs.declared.MassProperties.{MassProperties}
 use Rattle.fixed_wing.specs.declared.FixedWingModel.{FixedWingModel}
@@ -20,6 +20,7 @@ use Rattle.motors.specs.Motor.{lagFactor, spinOf}
 use Rattle.motors.specs.declared.Motors.{Motors}
 use Rattle.surfaces.specs.Surface.{moveTo}
 use Rattle.surfaces.specs.declared.Surfaces.{Surfaces}
+use Rattle.vector.specs.Vector.{vecInside}
 use Rattle.vector.specs.declared.Vec3.{Vec3}
 use Rattle.wing.specs.Loads.{loadsOf, motorsFor, surfacesFor}
 use Rattle.wing.specs.declared.Loaded.{Loaded}
@@ -65,11 +66,20 @@ refusedOf answer f = record {
 unfoldable pub unlessDeparted : Flight → Ticked → Ticked
 unlessDeparted f n = cond (isInside (n .flight)) n (refusedOf Departure f)
 
--- of an airframe that is accepted. 7: the state outside the envelope; 8: the step not in 1/1024..0.02
+-- 10: a wind is usable where each component is within ±200 m/s, which a NaN is not (02, 1)
+abbrev pub windMost : Float
+windMost = rounded 200 1
+
+unfoldable pub windUsable : Vec3 → Bool
+windUsable wind = vecInside windMost wind
+
+-- of an airframe that is accepted. 7: the state outside the envelope; 8: the step not in 1/1024..0.02; then 10
 unfoldable pub acceptedTick : Airframe → Flight → Tick → Ticked
 acceptedTick a f t =
     cond (isInside f)
-    (cond (inside stepLeast stepMost (t .«step_s»)) (unlessDeparted f (nextOf a f t)) (refusedOf StepOutside f))
+    (cond (inside stepLeast stepMost (t .«step_s»))
+    (cond (windUsable (t .«wind_ned_mps»)) (unlessDeparted f (nextOf a f t)) (refusedOf WindUnusable f))
+    (refusedOf StepOutside f))
     (refusedOf StateOutside f)
 
 -- 6: a number of the airframe outside its limits

@@ -1,4 +1,4 @@
-// 01, module 8: the tick. Lags, thrust, wash, aerodynamics and the body's step, with the tests 6 to 9 around them.
+// 01, module 8: the tick. Lags, thrust, wash, aerodynamics and the body's step, with the tests 6 to 10 around them.
 ghost use mathlib.Core.Bool.{true};
 ghost use mathlib.Core.Path.{_≡_};
 ghost use Rattle.airframe.specs.Acceptance.{refusedPlace};
@@ -51,7 +51,7 @@ pub struct LagFactors {
     pub servo: f32,
 }
 
-// One tick from `f`: refused with 6, 7, 8 or 9, in this order, it hands back `f`.
+// One tick from `f`: refused with 6, 7, 8, 10 or 9, in this order, it hands back `f`.
 pub fn tick(a: Airframe, f: Flight, t: Tick) -> Ticked
     ensures { λ r. ⌜ r ≡ TickOf.tickOf a f t ⌝ }
 {
@@ -62,7 +62,7 @@ pub fn tick(a: Airframe, f: Flight, t: Tick) -> Ticked
     refused(Answer::NumberOutOfRange(place), f)
 }
 
-// The same of an airframe that is accepted: the tests 7, 8 and 9.
+// The same of an airframe that is accepted: the tests 7, 8, 10 and 9.
 pub fn tick_accepted(a: Airframe, f: Flight, t: Tick) -> Ticked
     requires { ⌜ refusedPlace a ≡ 0 ⌝ }
     ensures { λ r. ⌜ r ≡ TickOf.tickOf a f t ⌝ }
@@ -73,15 +73,25 @@ pub fn tick_accepted(a: Airframe, f: Flight, t: Tick) -> Ticked
     refused(Answer::StateOutside, f)
 }
 
-// The same from a state inside the envelope, with the lag factors of the tick's step: the tests 8 and 9.
+// The same from a state inside the envelope, with the lag factors of the tick's step: the tests 8, 10 and 9.
 pub fn tick_inside(a: Airframe, f: Flight, t: Tick, lags: LagFactors) -> Ticked
     requires { ⌜ refusedPlace a ≡ 0 ⌝ ∗ ⌜ isInside f ≡ true ⌝ ∗ ⌜ lags ≡ Contracts.beginOf a (t .«step_s») ⌝ }
     ensures { λ r. ⌜ r ≡ TickOf.tickOf a f t ⌝ }
 {
     if float::inside(t.step_s, 0.0009765625, 0.02) {
-        return unless_departed(f, next_with(a, f, t, lags));
+        if wind_usable(t.wind_ned_mps) {
+            return unless_departed(f, next_with(a, f, t, lags));
+        }
+        return refused(Answer::WindUnusable, f);
     }
     refused(Answer::StepOutside, f)
+}
+
+// Whether the wind is one to fly in: each component is a number from -200 to 200 m/s (02, 1).
+fn wind_usable(wind_ned_mps: Vec3) -> bool
+    ensures { λ r. ⌜ r ≡ TickOf.windUsable «wind_ned_mps» ⌝ }
+{
+    wind_ned_mps.is_inside(200.0)
 }
 
 // A refusal: the state as it was given, and zeros.

@@ -1,6 +1,17 @@
 //! What the library's comparison counts.
 
+use oracle::limits;
+use oracle::rows::TickRow;
 use oracle::tick::Report;
+
+const STRONG_MPS: f32 = 100.0;
+
+/// The counts that are not 0, each with its number; they are numbered from `first` on.
+fn by_number(counts: &[u64], first: usize) -> String {
+    let met = (first..).zip(counts).filter(|(_, count)| **count > 0);
+    let words = met.map(|(number, count)| format!("{number}: {count}"));
+    words.collect::<Vec<String>>().join(", ")
+}
 
 #[derive(Default)]
 pub struct Figures {
@@ -9,7 +20,10 @@ pub struct Figures {
     pub hand_made: u64,
     pub ticks: u64,
     /// How many ticks got each answer.
-    pub answers: [u64; 10],
+    pub answers: [u64; 11],
+    /// How many of those in an unusable wind did, and of those in one over 100 m/s that is usable.
+    pub in_unusable: [u64; 11],
+    pub in_strong: [u64; 11],
     pub runs: u64,
     pub run_ticks: u64,
     pub pairs: u64,
@@ -23,16 +37,16 @@ impl Figures {
         self.flights + self.damaged + self.hand_made
     }
 
-    pub fn ticked(&mut self, report: &Report) {
+    pub fn ticked(&mut self, report: &Report, tick: &TickRow) {
+        let answer = usize::from(report.answer);
+        let wind = [tick[1], tick[2], tick[3]];
         self.ticks += 1;
-        self.answers[usize::from(report.answer)] += 1;
-    }
-
-    fn refused(&self) -> String {
-        let counts = self.answers.iter().enumerate().skip(1);
-        let met = counts.filter(|(_, count)| **count > 0);
-        let words = met.map(|(number, count)| format!("{number}: {count}"));
-        words.collect::<Vec<String>>().join(", ")
+        self.answers[answer] += 1;
+        if !limits::wind(wind) {
+            self.in_unusable[answer] += 1;
+        } else if wind.iter().any(|x| x.abs() > STRONG_MPS) {
+            self.in_strong[answer] += 1;
+        }
     }
 
     pub fn print(&self) {
@@ -47,7 +61,12 @@ impl Figures {
             "library: {} ticks, {} accepted; refused by number {}",
             self.ticks,
             self.answers[0],
-            self.refused()
+            by_number(&self.answers[1..], 1)
+        );
+        println!(
+            "library: in an unusable wind, by number {}; in a usable one over {STRONG_MPS} m/s, {}",
+            by_number(&self.in_unusable, 0),
+            by_number(&self.in_strong, 0)
         );
         println!(
             "library: {} runs and {} mirrored pairs of {} ticks, {} blocks, {} rows of another length",

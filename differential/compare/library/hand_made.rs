@@ -115,7 +115,7 @@ pub fn differing(seed: u64, figures: &mut Figures) -> Option<Vec<f32>> {
     for _ in 0..TICKS {
         next_tick(rng, &mut case[TICK_AT..]);
         let (report, next) = expected(&case);
-        figures.ticked(&report);
+        figures.ticked(&report, &part(&case, TICK_AT));
         if differs(&case, &report, &next) {
             return Some(case.to_vec());
         }

@@ -18,15 +18,17 @@ pub fn all() -> Vec<Vec<u8>> {
         states(),
         norms(),
         steps(),
+        winds(),
     ]
     .concat()
 }
 
-/// The fall of document 01, whole and cut at every boundary, and one byte past it.
+/// The fall of two ticks in a wind of NaN; the one in a wind that goes down with it, whole and cut
+/// at every boundary, and one byte past it.
 fn hand_made() -> Vec<Vec<u8>> {
     let fall = hand::fall();
     let boundaries = [0, 1, 2, 3, 165, 166, 167, 281, 282, 283, 361, 362, 363, 441];
-    let mut all = vec![fall.clone()];
+    let mut all = vec![hand::fall_in_nan(), fall.clone()];
     all.extend(boundaries.map(|end| fall[..end].to_vec()));
     all.push([&fall[..], &[0]].concat());
     all
@@ -226,6 +228,39 @@ fn steps() -> Vec<Vec<u8>> {
         push(&mut bytes, &still(step));
     }
     vec![bytes]
+}
+
+/// Winds around their limits in each component: from rest, with a step that is refused, from where
+/// the usable ones depart, and behind a state and an airframe that are refused.
+fn winds() -> Vec<Vec<u8>> {
+    let (plain, rest, far) = (hand::plain(), hand::at_rest(), hand::far_north());
+    let fast = State {
+        rates: [101.0, 0.0, 0.0],
+        ..rest
+    };
+    let mut no_mass = plain.clone();
+    no_mass.numbers[0] = 0.0;
+    let (least, most) = limits::STEP_S;
+    vec![
+        blown(&plain, &rest, least),
+        blown(&plain, &rest, most.next_up()),
+        blown(&plain, &far, most),
+        blown(&plain, &fast, most),
+        blown(&no_mass, &rest, most),
+    ]
+}
+
+/// A flight of ticks of one step in each of the winds.
+fn blown(block: &AirframeBlock, state: &State, step: f32) -> Vec<u8> {
+    let components = [&hand::UNUSABLE[..], &hand::USABLE].concat();
+    let mut bytes = block.bytes();
+    bytes.extend(state_bytes(state));
+    for wind in hand::each_way(&components) {
+        let mut tick = still(step);
+        tick[1..4].copy_from_slice(&wind);
+        push(&mut bytes, &tick);
+    }
+    bytes
 }
 
 fn still(step: f32) -> [f32; 20] {

@@ -1,7 +1,8 @@
 -- `bench_c::bench_mirrored_pair` meets its contract: where both arrays fit, what is handed back is the pair from the state that was read. Assumes nothing.
 use Rattle.bench_c.specs.Library.{mirroredPair}
 use Rattle.bench_c.proofs.Lengths.{pair-fits}
-use Rattle.bench_c.proofs.Pair.{pair-mirrors, positive}
+use Rattle.bench_c.proofs.Pair.{pair-mirrors}
+use native.Mathlib.Nat.{suc-ne-zero}
 use native.Mathlib.Omega.{arith}
 use mathlib.Core.Path.{_∙_, sym}
 use borrow.Author.Needs.{needs}
@@ -50,7 +51,7 @@ returns c =
 
 returns-2 : tie.Need-returns-2
 unfolding mirroredPair
-returns-2 c = let e = sym (c .before .pair-fits .ensures) ∙ c .if1 .left in ((simp e, simp e, simp e, simp e, simp e), λ z. absurd (positive 0 z))
+returns-2 c = let e = sym (c .before .pair-fits .ensures) ∙ c .if1 .left in ((simp e, simp e, simp e, simp e, simp e), λ z. absurd (suc-ne-zero 0 z))
 
 pub bench-mirrored-pair-spec : {M : Type 1} → statement M
 bench-mirrored-pair-spec =

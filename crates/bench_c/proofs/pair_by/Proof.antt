@@ -1,7 +1,8 @@
 -- `bench_c::pair_by` meets its contract. Assumes nothing.
 use mathlib.Core.Path.{_∙_, sym}
 use borrow.Author.Tests.{eq-eqb, ne-eqb}
-use Rattle.bench_c.proofs.Pair.{ended-mirror, ended-number, positive}
+use native.Mathlib.Nat.{suc-ne-zero}
+use Rattle.bench_c.proofs.Pair.{ended-mirror, ended-number}
 use Rattle.bench_c.specs.Library.{ranBy, reflectedBy}
 use borrow.Author.Needs.{needs}
 use Rattle.bench_c.proofs.pair_by.Statement.{statement}
@@ -45,7 +46,7 @@ unfolding ranBy reflectedBy
 returns-3 c =
     let w = sym (c .before .before .is-whole .ensures) ∙ c .before .if1 .left in
     let p = c .ended-pair2 .ensures in
-    record { first = p .0 ∙ simp w; second = p .1 ∙ simp w; ends = ended-mirror _ _ _ (p .0) (p .1); theorem = λ z. absurd (positive 0 (ended-number _ _ _ (p .0) z)) }
+    record { first = p .0 ∙ simp w; second = p .1 ∙ simp w; ends = ended-mirror _ _ _ (p .0) (p .1); theorem = λ z. absurd (suc-ne-zero 0 (ended-number _ _ _ (p .0) z)) }
 
 pub pair-by-spec : {M : Type 1} → statement M
 pair-by-spec =

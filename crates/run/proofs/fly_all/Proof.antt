@@ -71,7 +71,7 @@ loop-again c =
       ap (left (a .reflect) (a .a) (a .trace .now) (i + 1) _) (progress (a .a) p _ (t .tick-at .result) (k .tick-inside .result) (c .before .one-if-done .result) (t .tick-at .ensures) (k .tick-inside .ensures) (c .before .one-if-done .ensures .0))
           ∙ sym (turn (a .reflect) (a .a) (a .trace .now) i _ p (c .before .before .before .before .before .before .loop-test .taken))
           ∙ s .loop .inv .3,
-      ap (λ (x : Ticked). isInside (x .flight)) (k .tick-inside .ensures) ∙ stays-inside (a .a) (s .loop .flight) (t .tick-at .result) (c .before .before .before .before .before .before .before .before .before .before .pre .0) (s .loop .inv .4),
+      ap (λ (x : Ticked). isInside (x .flight)) (k .tick-inside .ensures) ∙ stays-inside (a .a) (s .loop .flight) (t .tick-at .result) (s .loop .inv .4),
       c .before .before .before .before .begin-after .ensures .1,
       s .loop .inv .6,
     )

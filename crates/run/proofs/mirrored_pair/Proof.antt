@@ -48,7 +48,7 @@ returns c =
       second = second ∙ sym (reflected-run (reflectAirframe (a .a)) (reflectFlight (a .f)) s bytes);
       ticks = reflected-ticks s bytes;
       ends = rw (first, second) (ran-mirror (a .a) (a .f) s ts);
-      mirrored = λ e o us. mirrored (a .a) (a .f) us e o (held (k .before));
+      mirrored = λ e o us. mirrored (a .a) (a .f) us o (held (k .before));
     }
 
 pub mirrored-pair-spec : {M : Type 1} → statement M

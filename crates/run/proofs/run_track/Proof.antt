@@ -37,9 +37,8 @@ unfolding trackRan ranOver runOf
 returns-2 c =
     let k = c .before .before .before .before .before in
     let a = k .before .before .before .args in
-    let e : refusedPlace (a .a) ≡ 0 = sym (c .before .before .before .before .refused-place .ensures) ∙ c .before .before .before .if2 .taken in
     let o : isInside (a .f) ≡ false = sym (c .before .before .is-inside .ensures) ∙ c .before .if3 .left in
-    rw (sym (k .before .is-whole .ensures) ∙ k .if1 .taken, outside-run (a .a) (record { flight = a .f; accepted = 0 }) (map (reflectedIf (a .reflect)) (ticksOf (a .trace .now))) e o) (c .ended .ensures)
+    rw (sym (k .before .is-whole .ensures) ∙ k .if1 .taken, outside-run (a .a) (record { flight = a .f; accepted = 0 }) (map (reflectedIf (a .reflect)) (ticksOf (a .trace .now))) o) (c .ended .ensures)
 
 ended-requires-2 : tie.Need-ended-requires-2
 ended-requires-2 c κs = search needs
