@@ -14,8 +14,16 @@ use std::fmt;
 include!("lengths.rs");
 
 /// In order: position and velocity (north, east, down; m, m/s), the attitude's w, i, j, k, the
-/// rates p, q, r (rad/s), and the running values of 8 motors and of 8 servos.
+/// rates p, q, r (rad/s), the running values of 8 motors and of 8 servos, and the thrust scales of
+/// the 8 motors, of which 1 is as built. A state filled by hand needs them too: see
+/// [`motors_as_built`].
 pub type State = [f32; STATE_NUMBERS];
+
+/// Sets the 8 thrust scales of a state to 1. For a state that is filled by hand: scales left at 0
+/// are accepted, and the motors then give no thrust. A state that was read has its scales.
+pub fn motors_as_built(state: &mut State) {
+    state[STATE_SCALES..STATE_SCALES + SLOTS].fill(1.0);
+}
 
 /// In order: the step (s), the wind (north, east, down; m/s), and the commands of 8 motors and of
 /// 8 servos.
@@ -118,14 +126,15 @@ pub struct Ran {
     pub accepted: u64,
 }
 
-/// Reads a state block, whose numbers must be within the envelope.
+/// Reads a state block, whose numbers must be within the envelope. One without thrust scales, of
+/// [`STATE_BYTES_UNSCALED`] bytes, is read too: they are then 1.
 pub fn read_state(block: &[u8]) -> Result<State, Answer> {
     let mut state = [0.0; STATE_NUMBERS];
     Answer::refused(raw::read_state(block, &mut state))?;
     Ok(state)
 }
 
-/// The block of a state, whose numbers are written untested.
+/// The block of a state with all its numbers, which are written untested.
 pub fn write_state(state: &State) -> [u8; STATE_BYTES] {
     let mut block = [0; STATE_BYTES];
     // Both lengths are right, so it is never refused.
@@ -183,7 +192,7 @@ impl Airframe {
         &self.numbers
     }
 
-    /// One tick: moves `state` on. A refused tick leaves it as it was.
+    /// One tick: moves `state` on, but for its thrust scales. A refused tick leaves it as it was.
     pub fn tick(&self, state: &mut State, tick: &Tick) -> Result<Report, Answer> {
         let mut report = [0.0; REPORT_NUMBERS];
         Answer::refused(raw::tick_prepared(&self.numbers, state, tick, &mut report))?;

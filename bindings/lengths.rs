@@ -1,16 +1,40 @@
 // The lengths, answers and places of include/bench.h, written by bindings/lengths.
 pub const BLOCK_VERSION: usize = 1;
-pub const CALLS_VERSION: usize = 3;
+pub const CALLS_VERSION: usize = 4;
 pub const AIRFRAME_NUMBERS: usize = 106;
-pub const STATE_NUMBERS: usize = 29;
+pub const STATE_NUMBERS: usize = 37;
 pub const TICK_NUMBERS: usize = 20;
 pub const REPORT_NUMBERS: usize = 3;
-pub const STATE_BYTES: usize = 116;
+pub const SLOTS: usize = 8;
+pub const STATE_BYTES: usize = 148;
+pub const STATE_BYTES_UNSCALED: usize = 116;
 pub const TICK_BYTES: usize = 80;
 pub const AIRFRAME_BYTES: usize = 166;
 pub const WASH_BYTES: usize = 28;
 pub const ROW_BYTES: usize = 13;
 pub const MOST_ROWS: usize = 16;
+
+// Where the numbers of the arrays start.
+pub const STATE_POSITION: usize = 0;
+pub const STATE_VELOCITY: usize = 3;
+pub const STATE_ATTITUDE: usize = 6;
+pub const STATE_RATES: usize = 10;
+pub const STATE_MOTORS: usize = 13;
+pub const STATE_SERVOS: usize = 21;
+pub const STATE_SCALES: usize = 29;
+pub const TICK_STEP: usize = 0;
+pub const TICK_WIND: usize = 1;
+pub const TICK_MOTORS: usize = 4;
+pub const TICK_SERVOS: usize = 12;
+pub const REPORT_ALPHA: usize = 0;
+pub const REPORT_BETA: usize = 1;
+pub const REPORT_THRUST: usize = 2;
+pub const AIRFRAME_PLACES: usize = 0;
+pub const AIRFRAME_FALLOFF: usize = 48;
+pub const AIRFRAME_WASH: usize = 49;
+pub const AIRFRAME_USED: usize = 50;
+pub const AIRFRAME_TORQUES: usize = 58;
+pub const AIRFRAME_WEIGHTS: usize = 82;
 
 /// The words of the answers from 0 on.
 pub const ANSWERS: [&str; 11] = [

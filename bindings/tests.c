@@ -1,13 +1,13 @@
-/* The header's own code on a sample flight: tests FILE. Words and lengths, and the guarded forms from every float environment:
- * the bits they give are those of the plain calls in the default one, and the caller's control word comes back. And the winds
- * that a tick refuses, at their limits. */
+/* The header's own code on a sample flight: tests FILE OLDER. Words and lengths, and the guarded forms from every float
+ * environment: the bits they give are those of the plain calls in the default one, and the caller's control word comes back. And
+ * the winds and thrust scales that a tick refuses, at their limits. OLDER is the same flight with a state block without scales. */
 #include <stdio.h>
 #include <string.h>
 
 #include "bench.h"
 
 enum { MOST = 1 << 20, TICKS = 20 };
-static uint8_t bytes[MOST];
+static uint8_t bytes[MOST], older_bytes[MOST];
 static int failures;
 
 static void check(int holds, const char *what, const char *where)
@@ -24,18 +24,18 @@ struct sample {
     size_t airframe_bytes, trace_bytes;
 };
 
-static int read_sample(const char *name, struct sample *s)
+static int read_sample(const char *name, uint8_t *into, size_t state_bytes, struct sample *s)
 {
     FILE *file = fopen(name, "rb");
-    size_t length = file ? fread(bytes, 1, MOST, file) : 0;
+    size_t length = file ? fread(into, 1, MOST, file) : 0;
     if (file)
         fclose(file);
-    s->airframe = bytes;
-    s->airframe_bytes = bench_airframe_length(bytes);
-    s->state = bytes + s->airframe_bytes;
-    s->trace = s->state + BENCH_STATE_BYTES;
+    s->airframe = into;
+    s->airframe_bytes = bench_airframe_length(into);
+    s->state = into + s->airframe_bytes;
+    s->trace = s->state + state_bytes;
     s->trace_bytes = TICKS * BENCH_TICK_BYTES;
-    return length >= s->airframe_bytes + BENCH_STATE_BYTES + s->trace_bytes;
+    return length >= s->airframe_bytes + state_bytes + s->trace_bytes;
 }
 
 /* Puts a number into the block at `at`, counted in numbers. */
@@ -349,16 +349,88 @@ static void test_winds(const struct sample *s)
     }
 }
 
+/* ---- The thrust scales ---- */
+
+static void test_as_built(void)
+{
+    float state[S + 1] = {0};
+    state[S] = 7.0f;
+    bench_motors_as_built(state);
+    for (size_t place = 0; place < S; place++)
+        check(state[place] == (place < BENCH_STATE_SCALES ? 0.0f : 1.0f), "another number", "bench_motors_as_built");
+    check(state[S] == 7.0f, "a number beyond the state", "bench_motors_as_built");
+}
+
+/* The older block is read as the sample's with scales of 1, and is not written. */
+static void test_older(const struct sample *s, const struct sample *older)
+{
+    float state[S], read[S];
+    uint8_t block[BENCH_STATE_BYTES], lent[BENCH_STATE_BYTES_UNSCALED], found[BENCH_STATE_BYTES_UNSCALED];
+    memset(lent, 0xA5, sizeof lent);
+    memcpy(found, lent, sizeof lent);
+    check(guarded.read_state(s->state, BENCH_STATE_BYTES, state, S) == BENCH_DONE, "the sample's state is refused", "148 bytes");
+    check(guarded.read_state(older->state, BENCH_STATE_BYTES_UNSCALED, read, S) == BENCH_DONE, "refused", "116 bytes");
+    bench_motors_as_built(state);
+    check(memcmp(read, state, sizeof read) == 0, "another state", "116 bytes");
+    check(guarded.write_state(read, S, block, BENCH_STATE_BYTES) == BENCH_DONE, "not written", "116 bytes");
+    check(memcmp(block, s->state, sizeof block) == 0, "another block", "116 bytes");
+    check(guarded.write_state(read, S, lent, sizeof lent) == BENCH_WRONG_LENGTH, "written", "116 bytes");
+    check(memcmp(lent, found, sizeof lent) == 0, "the bytes are not as found", "116 bytes");
+    for (size_t length = 0; length <= BENCH_STATE_BYTES + 1; length++) {
+        uint8_t room[BENCH_STATE_BYTES + 1] = {0};
+        memcpy(room, block, sizeof block);
+        int fits = length == BENCH_STATE_BYTES || length == BENCH_STATE_BYTES_UNSCALED;
+        check((guarded.read_state(room, length, read, S) == BENCH_DONE) == fits, "wrong about a length", "a state block");
+    }
+}
+
+/* 0, -0, the smallest subnormal and 1; the next float beyond 1, the smallest subnormal below 0, infinities, NaNs. */
+static const uint32_t scales[] = {0x00000000, 0x80000000, 0x00000001, 0x3F800000};
+static const uint32_t no_scales[] = {0x3F800001, 0x80000001, 0x7F800000, 0xFF800000, 0x7FC00000, 0xFFC00000, 0x7F800001};
+enum { SCALES = sizeof scales / sizeof *scales, NO_SCALES = sizeof no_scales / sizeof *no_scales };
+
+/* The sample's first ticks with this scale in this slot: an accepted one leaves all scales, a refused one the state. */
+static void fly_with_scale(const struct sample *s, size_t slot, uint32_t bits, uint64_t expected)
+{
+    struct results r;
+    size_t kept = expected == BENCH_DONE ? BENCH_STATE_SCALES : 0, count = expected == BENCH_DONE ? TICKS : 0;
+    read_blocks(&guarded, s, &r);
+    memcpy(r.start + BENCH_STATE_SCALES + slot, &bits, sizeof bits);
+    tick_both(&guarded, s, &r);
+    run_both(&guarded, s, &r);
+    check(r.replies[4] == expected && r.replies[5] == expected, "another reply", "a scale");
+    check(r.replies[6] == BENCH_DONE && r.replies[7] == BENCH_DONE, "a run is refused", "a scale");
+    for (size_t run = 0; run < 3; run++)
+        check(r.accepted[run] == count, "another count", "a scale");
+    const float *ends[4] = {r.by_block, r.prepared, r.ran, r.pair[0]};
+    for (size_t end = 0; end < 4; end++)
+        check(memcmp(ends[end] + kept, r.start + kept, (S - kept) * sizeof *r.start) == 0, "not as found", "a scale");
+}
+
+static void test_scales(const struct sample *s)
+{
+    for (size_t slot = 0; slot < BENCH_SLOTS; slot++) {
+        for (size_t at = 0; at < SCALES; at++)
+            fly_with_scale(s, slot, scales[at], BENCH_DONE);
+        for (size_t at = 0; at < NO_SCALES; at++)
+            fly_with_scale(s, slot, no_scales[at], BENCH_STATE_OUTSIDE);
+    }
+}
+
 int main(int count, char **arguments)
 {
-    struct sample sample;
-    if (count != 2 || !read_sample(arguments[1], &sample)) {
-        fprintf(stderr, "usage: tests FILE, a flight of %d ticks or more\n", TICKS);
+    struct sample sample, older;
+    if (count != 3 || !read_sample(arguments[1], bytes, BENCH_STATE_BYTES, &sample) ||
+        !read_sample(arguments[2], older_bytes, BENCH_STATE_BYTES_UNSCALED, &older)) {
+        fprintf(stderr, "usage: tests FILE OLDER, a flight of %d ticks or more\n", TICKS);
         return 1;
     }
+    test_older(&sample, &older);
     make_telling(&sample);
     test_words();
+    test_as_built();
     test_guard(&sample);
     test_winds(&sample);
+    test_scales(&sample);
     return failures != 0;
 }

@@ -7,6 +7,8 @@ mod environments;
 mod limits;
 #[path = "tests/nans.rs"]
 mod nans;
+#[path = "tests/scales.rs"]
+mod scales;
 #[path = "tests/winds.rs"]
 mod winds;
 

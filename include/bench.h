@@ -33,19 +33,25 @@ extern "C" {
 /* The version of the blocks, which an airframe block's first four bits give: another one means another layout of bytes. The
  * version of the calls: it rises where a call is added or answers otherwise. 2 has bench_read_tick and bench_write_tick, and a
  * run looks at its trace's length before its block. 3 tests the wind of a tick: a NaN or more than 200 m/s gets the new answer
- * 10, after 8 and before 9. */
+ * 10, after 8 and before 9. 4 has eight thrust scales more in a state: its array has 37 floats, not 29, and its block 148 bytes,
+ * not 116, which are still read. */
 #define BENCH_BLOCK_VERSION 1
-#define BENCH_CALLS_VERSION 3
+#define BENCH_CALLS_VERSION 4
 
 /* How many floats each array has. */
 #define BENCH_AIRFRAME_NUMBERS 106
-#define BENCH_STATE_NUMBERS 29
+#define BENCH_STATE_NUMBERS 37
 #define BENCH_TICK_NUMBERS 20
 #define BENCH_REPORT_NUMBERS 3
 
+/* How many motors there are, and how many servos. */
+#define BENCH_SLOTS 8
+
 /* How many bytes each block has. An airframe block has 166, and 28 for a wash and 13 for each row more. A trace is tick blocks
- * one after another. Numbers in blocks are IEEE 754 floats of 32 bits, the highest byte first. */
-#define BENCH_STATE_BYTES 116
+ * one after another. Numbers in blocks are IEEE 754 floats of 32 bits, the highest byte first. A state block without the thrust
+ * scales, as states were before there were any, has BENCH_STATE_BYTES_UNSCALED bytes: bench_read_state takes it, no other call. */
+#define BENCH_STATE_BYTES 148
+#define BENCH_STATE_BYTES_UNSCALED 116
 #define BENCH_TICK_BYTES 80
 #define BENCH_AIRFRAME_BYTES 166
 #define BENCH_WASH_BYTES 28
@@ -179,8 +185,17 @@ enum bench_state_places {
     BENCH_STATE_ATTITUDE = 6,  /* 4: w, i, j, k */
     BENCH_STATE_RATES = 10,    /* 3: body rates p, q, r, in rad/s */
     BENCH_STATE_MOTORS = 13,   /* 8: running motors, 0 to 1 */
-    BENCH_STATE_SERVOS = 21    /* 8: running servos, -1 to 1 */
+    BENCH_STATE_SERVOS = 21,   /* 8: running servos, -1 to 1 */
+    BENCH_STATE_SCALES = 29    /* 8: thrust scales by motor slot, 0 to 1: 1 as built, 0 gives no thrust */
 };
+
+/* Sets the eight thrust scales of a state's array to 1. For a state that is filled by hand: scales left at 0 are accepted, and the
+ * motors then give no thrust. A state that was read has its scales. */
+static inline void bench_motors_as_built(float state[BENCH_STATE_NUMBERS])
+{
+    for (size_t slot = 0; slot < BENCH_SLOTS; slot++)
+        state[BENCH_STATE_SCALES + slot] = 1.0f;
+}
 
 /* Where the numbers of a tick's array start; they stand in the same order in its block. */
 enum bench_tick_places {
@@ -218,13 +233,14 @@ uint64_t bench_read_airframe(const uint8_t *block, size_t block_len);
  * gives zeros. An array of another length gets 1 and is left as found. */
 uint64_t bench_prepare(const uint8_t *block, size_t block_len, float *airframe, size_t airframe_len);
 
-/* Reads a state block into an array of 29 floats. Refused: not 116 bytes (1); outside the envelope (7). A refused block gives
- * zeros. An array of another length gets 1 and is left as found. The envelope: position within 1,000,000 m, velocity within
- * 1,000 m/s, rates within 100 rad/s, ((i*i + j*j) + k*k) + w*w in 0.9..1.1, motors 0..1, servos -1..1; NaN is outside. */
+/* Reads a state block into an array of 37 floats. A block of 148 bytes has them all; one of 116 has no thrust scales, which are
+ * then 1. Refused: neither 148 bytes nor 116 (1); outside the envelope (7). A refused block gives zeros, scales too. An array of
+ * another length gets 1 and is left as found. The envelope: position within 1,000,000 m, velocity within 1,000 m/s, rates within
+ * 100 rad/s, ((i*i + j*j) + k*k) + w*w in 0.9..1.1, motors 0..1, servos -1..1, thrust scales 0..1; NaN is outside. */
 uint64_t bench_read_state(const uint8_t *block, size_t block_len, float *state, size_t state_len);
 
-/* Writes a state's array of 29 floats into a block of 116 bytes. The numbers are written untested. An array or a block of another
- * length gets 1 and the block is left as found. */
+/* Writes a state's array of 37 floats into a block of 148 bytes. The numbers are written untested. An array or a block of another
+ * length, 116 too, gets 1 and the block is left as found. */
 uint64_t bench_write_state(const float *state, size_t state_len, uint8_t *block, size_t block_len);
 
 /* Reads a tick block into an array of 20 floats. The numbers are not tested. Refused: not 80 bytes (1). A refused block gives
@@ -237,12 +253,12 @@ uint64_t bench_write_tick(const float *tick, size_t tick_len, uint8_t *block, si
 
 /* ---- A tick ---- */
 
-/* One tick: moves the state in its array of 29 on by the tick's array of 20, with the airframe as its block, and gives alpha, beta
- * and thrust in the report's array of 3. Refused, the first that holds: an array of another length (1), which leaves state and
- * report as found; a refused block, with bench_read_airframe's reply; the state outside the envelope (7); the step not in
- * 1/1024..0.02 s (8); a component of the wind that is a NaN or beyond 200 m/s either way (10); a departure (9). But for an
- * array's length, a refusal leaves the state as found and reports zeros. Commands may be any floats: one that is NaN counts as 0,
- * others are held to their range. */
+/* One tick: moves the state in its array of 37 on by the tick's array of 20, with the airframe as its block, and gives alpha, beta
+ * and thrust in the report's array of 3. Each motor's thrust is multiplied by its scale, and no tick changes a scale. Refused, the
+ * first that holds: an array of another length (1), which leaves state and report as found; a refused block, with
+ * bench_read_airframe's reply; the state outside the envelope (7); the step not in 1/1024..0.02 s (8); a component of the wind that
+ * is a NaN or beyond 200 m/s either way (10); a departure (9). But for an array's length, a refusal leaves the state as found and
+ * reports zeros. Commands may be any floats: one that is NaN counts as 0, others are held to their range. */
 uint64_t bench_tick(const uint8_t *airframe_block, size_t airframe_block_len, float *state, size_t state_len, const float *tick,
                     size_t tick_len, float *report, size_t report_len);
 
@@ -254,7 +270,7 @@ uint64_t bench_tick_prepared(const float *airframe, size_t airframe_len, float *
 
 /* ---- A run over a trace ---- */
 
-/* Flies the ticks of the trace one after another from the state in its array of 29, puts the end state there and the number of
+/* Flies the ticks of the trace one after another from the state in its array of 37, puts the end state there and the number of
  * accepted ticks into accepted. A refused tick does not end the run: the state stays, the next tick is flown, and the run still
  * replies 0. A state outside the envelope is a matter of its ticks. Refused, the first that holds: an array of another length
  * (1); a trace that is not whole ticks of 80 bytes (1); a refused block, with bench_read_airframe's reply. A refused run leaves
@@ -263,7 +279,7 @@ uint64_t bench_run(const uint8_t *airframe_block, size_t airframe_block_len, flo
                    size_t trace_len, uint64_t *accepted);
 
 /* The run above and its reflection: the same flight with left and right exchanged in airframe, state and ticks. What stands in
- * reflected at first does not matter. The end states go into both arrays of 29 and the counts into both numbers. Where the reply
+ * reflected at first does not matter. The end states go into both arrays of 37 and the counts into both numbers. Where the reply
  * is 0, it is proved that they mirror: in reflected, position and velocity east, i, k, p and r have the opposite sign, every
  * other number is that of state, zeros and NaNs alike, and the counts are equal. Refused as bench_run, where either array is of
  * another length (1) too: both arrays are then as found and both counts 0. */

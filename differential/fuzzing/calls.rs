@@ -1,6 +1,7 @@
 //! The library's calls on one case, each with what must hold after it.
 
-use bench::{AIRFRAME_NUMBERS, REPORT_NUMBERS, STATE_BYTES, STATE_NUMBERS, TICK_BYTES, TICK_NUMBERS, raw};
+use bench::{AIRFRAME_NUMBERS, REPORT_NUMBERS, SLOTS, STATE_BYTES, STATE_BYTES_UNSCALED, STATE_NUMBERS, STATE_SCALES};
+use bench::{TICK_BYTES, TICK_NUMBERS, raw};
 
 use crate::guarded::{Element, Guarded};
 use crate::make::{Case, numbers};
@@ -118,11 +119,31 @@ fn read_state(counts: &mut Counts, case: &Case) -> Held {
     })?;
     left(&block, READ_STATE)?;
     read_into(&row, STATE_NUMBERS, reply, READ_STATE)?;
-    let length = case.state.len() == STATE_NUMBERS && case.state_block.len() == STATE_BYTES;
-    hold(length == (reply != 1), READ_STATE, "wrong about a length")
+    let known = [STATE_BYTES, STATE_BYTES_UNSCALED].contains(&case.state_block.len());
+    let length = case.state.len() == STATE_NUMBERS && known;
+    hold(length == (reply != 1), READ_STATE, "wrong about a length")?;
+    let good = reply != 0 || state_of(block.content(), row.content());
+    hold(good, READ_STATE, "other numbers than the block's")
 }
 
-/// The bytes are the row's numbers, but for a NaN's bits.
+fn scales(row: &[f32]) -> &[f32] {
+    &row[STATE_SCALES..STATE_SCALES + SLOTS]
+}
+
+/// Whether an accepted state's row is its block's, with scales of 1 where the block has none, and
+/// has all scales within their limits.
+fn state_of(block: &[u8], row: &[f32]) -> bool {
+    let built = block.len() != STATE_BYTES_UNSCALED || scales(row).iter().all(|x| *x == 1.0);
+    built && written(block, row) && scales(row).iter().all(|x| (0.0..=1.0).contains(x))
+}
+
+/// Whether a state's row has another's scales, but for a NaN's bits.
+fn same_scales(row: &[f32], start: &[f32]) -> bool {
+    let mut pairs = scales(row).iter().zip(scales(start));
+    pairs.all(|(x, y)| x.to_bits() == y.to_bits() || (x.is_nan() && y.is_nan()))
+}
+
+/// The bytes are the row's numbers from its first on, but for a NaN's bits.
 fn written(block: &[u8], row: &[f32]) -> bool {
     let mut pairs = numbers(block).into_iter().zip(row);
     pairs.all(|(x, y)| x.to_bits() == y.to_bits() || (x.is_nan() && y.is_nan()))
@@ -215,6 +236,8 @@ impl TickRows {
         if reply == 0 {
             hold(fit, call, "took a row of another length")?;
             hold(self.wind_usable(), call, "flew in an unusable wind")?;
+            let kept = same_scales(self.state.content(), self.state.found());
+            hold(kept, call, "changed a thrust scale")?;
             return hold(inside(self.state.content()), call, "a state outside");
         }
         hold(reply != 10 || !self.wind_usable(), call, "refused a usable wind")?;
@@ -290,6 +313,7 @@ fn run_reply(case: &Case, fit: bool, read: u64) -> u64 {
     }
 }
 
+/// A run's end state; its thrust scales are those of the case's state, in the reflection too.
 fn after_run(row: &Guarded<f32>, reply: u64, count: u64, case: &Case, call: usize) -> Held {
     whole(row, call)?;
     let most = case.trace.len() as u64 / TICK_BYTES as u64;
@@ -298,6 +322,8 @@ fn after_run(row: &Guarded<f32>, reply: u64, count: u64, case: &Case, call: usiz
         hold(count == 0, call, "refused, but counts ticks")?;
         return left(row, call);
     }
+    let kept = same_scales(row.content(), &case.state);
+    hold(kept, call, "changed a thrust scale")?;
     let held = count == 0 || inside(row.content());
     hold(held, call, "a state outside")
 }

@@ -78,6 +78,11 @@ impl<T: Element> Guarded<T> {
         unsafe { slice::from_raw_parts_mut(self.region.start().add(start), end - start) }
     }
 
+    /// What it held before.
+    pub fn found(&self) -> &[T] {
+        &self.found
+    }
+
     pub fn content(&self) -> &[T] {
         // As above; the place is a multiple of 4 for floats, and the region starts with a page.
         let start = unsafe { self.region.start().add(self.from) };

@@ -1,18 +1,21 @@
 //! Bytes and rows to hand to the library: random ones, and valid ones damaged.
 
-use bench::{AIRFRAME_BYTES, MOST_ROWS, REPORT_NUMBERS, ROW_BYTES, STATE_NUMBERS, TICK_BYTES, TICK_NUMBERS, WASH_BYTES};
+use bench::{AIRFRAME_BYTES, MOST_ROWS, REPORT_NUMBERS, ROW_BYTES, STATE_BYTES_UNSCALED, STATE_NUMBERS, TICK_BYTES};
+use bench::{TICK_NUMBERS, WASH_BYTES};
 
 use crate::rng::Rng;
 use crate::seeds::Flight;
 
 /// Numbers at which a test or a formula may turn.
-const TELLING: [u32; 20] = [
+const TELLING: [u32; 22] = [
     0x0000_0000,
     0x8000_0000,
     0x0000_0001,
+    0x8000_0001,
     0x807F_FFFF,
     0x0080_0000,
     0x3F80_0000,
+    0x3F80_0001,
     0xBF80_0000,
     0x4000_0000,
     0x42C8_0000,
@@ -155,15 +158,22 @@ fn tick_block(trace: &[u8]) -> Vec<u8> {
     block
 }
 
+/// The state's block, or one time in three without its thrust scales.
+fn state_block(rng: &mut Rng, state: &[u8]) -> Vec<u8> {
+    let bytes = if rng.once_in(3) { STATE_BYTES_UNSCALED } else { state.len() };
+    state[..bytes].to_vec()
+}
+
 /// A case of blocks of `length` bytes, from a valid flight; the airframe's row is its prepared one.
 pub fn case(rng: &mut Rng, flight: &Flight, prepared: &[f32], length: usize) -> Case {
     let any = rng.below(2001);
     let first = tick_block(&flight.trace);
+    let (state, lent) = (state_block(rng, &flight.state), state_block(rng, &flight.state));
     Case {
         block: block(rng, &flight.airframe, length),
-        state_block: block(rng, &flight.state, length),
+        state_block: block(rng, &state, length),
         trace: block(rng, &flight.trace, length),
-        lent_block: block(rng, &flight.state, any),
+        lent_block: block(rng, &lent, any),
         airframe: row(rng, prepared.to_vec()),
         state: row(rng, numbers(&flight.state)),
         reflected: random_row(rng, STATE_NUMBERS),

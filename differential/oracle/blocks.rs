@@ -1,5 +1,5 @@
 //! Document 01's blocks: reading an airframe, a state and a tick, writing a state and a tick. Written
-//! from 01 alone; only a row's torques and weights come from the originals.
+//! from 01 and 02 alone; only a row's torques and weights come from the originals.
 
 use stable_flight::Vec3;
 use stable_flight::mixers::{MixRow, Slot, TableMixer};
@@ -13,8 +13,12 @@ pub const AIRFRAME_NUMBERS: usize = 41;
 pub const WASH_NUMBERS: usize = 7;
 pub const HEADER_BYTES: usize = 2;
 pub const ROW_BYTES: usize = 13;
-pub const STATE_BYTES: usize = 116;
-pub const TICK_BYTES: usize = 80;
+pub const STATE_NUMBERS: usize = 37;
+pub const TICK_NUMBERS: usize = 20;
+pub const STATE_BYTES: usize = 4 * STATE_NUMBERS;
+/// A state block from before there were thrust scales.
+pub const UNSCALED_BYTES: usize = STATE_BYTES - 4 * SLOTS;
+pub const TICK_BYTES: usize = 4 * TICK_NUMBERS;
 const MOST_ROWS: usize = 16;
 
 /// Why a block was refused: the number and, for 6, the place.
@@ -242,16 +246,27 @@ pub struct State {
     pub rates: [f32; 3],
     pub motors: [f32; SLOTS],
     pub servos: [f32; SLOTS],
+    pub thrust_scale: [f32; SLOTS],
 }
 
 impl State {
     /// What a refused read returns.
     pub fn zero() -> Self {
-        Self::from_numbers(&[0; STATE_BYTES])
+        Self::from_numbers(&[0; UNSCALED_BYTES], [0.0; SLOTS])
     }
 
-    /// The numbers of a block, not tested.
-    pub fn from_numbers(bytes: &[u8; STATE_BYTES]) -> Self {
+    /// The numbers of a block, not tested: 148 bytes have them all, 116 have no thrust scales,
+    /// which then are 1; none for any other length.
+    pub fn of_block(bytes: &[u8]) -> Option<Self> {
+        let thrust_scale = match bytes.len() {
+            STATE_BYTES => numbers(bytes, UNSCALED_BYTES),
+            UNSCALED_BYTES => [1.0; SLOTS],
+            _ => return None,
+        };
+        Some(Self::from_numbers(bytes, thrust_scale))
+    }
+
+    fn from_numbers(bytes: &[u8], thrust_scale: [f32; SLOTS]) -> Self {
         State {
             position: numbers(bytes, 0),
             velocity: numbers(bytes, 12),
@@ -259,10 +274,11 @@ impl State {
             rates: numbers(bytes, 40),
             motors: numbers(bytes, 52),
             servos: numbers(bytes, 84),
+            thrust_scale,
         }
     }
 
-    /// All 29 numbers in the block's order.
+    /// All numbers in the block's order.
     pub fn numbers(&self) -> Vec<f32> {
         [
             &self.position[..],
@@ -271,6 +287,7 @@ impl State {
             &self.rates,
             &self.motors,
             &self.servos,
+            &self.thrust_scale,
         ]
         .concat()
     }
@@ -285,14 +302,14 @@ impl State {
             && limits::within(i * i + j * j + k * k + w * w, limits::NORM)
             && all(&self.motors, limits::MOTOR)
             && all(&self.servos, limits::SERVO)
+            && all(&self.thrust_scale, limits::SCALE)
     }
 }
 
 pub fn read_state(bytes: &[u8]) -> Result<State, Refusal> {
-    let Ok(bytes) = bytes.try_into() else {
+    let Some(state) = State::of_block(bytes) else {
         return Err(Refusal::of(limits::LENGTH));
     };
-    let state = State::from_numbers(bytes);
     if !state.inside() {
         return Err(Refusal::of(limits::STATE));
     }
@@ -311,7 +328,7 @@ fn write(numbers: &[f32], bytes: &mut [u8]) -> Result<(), Refusal> {
     Ok(())
 }
 
-/// Writes `state` into 116 bytes lent.
+/// Writes `state` into 148 bytes lent.
 pub fn write_state(state: &State, bytes: &mut [u8]) -> Result<(), Refusal> {
     write(&state.numbers(), bytes)
 }

@@ -86,5 +86,6 @@ impl Driver {
         self.body = body(state);
         self.wing.motors_mut().set_running(state.motors);
         self.wing.surfaces_mut().set_running(state.servos);
+        self.wing.set_thrust_scale(state.thrust_scale);
     }
 }

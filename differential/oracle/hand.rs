@@ -1,5 +1,5 @@
-//! Document 01's cases: "Flown by hand" and the examples of "What the bench replies"; and the winds
-//! that document 02 refuses.
+//! Document 01's cases: "Flown by hand" and the examples of "What the bench replies"; and document
+//! 02's refused winds and thrust scales.
 
 use core::hint::black_box;
 
@@ -7,7 +7,8 @@ use stable_flight::Vec3;
 use stable_flight::mixers::{MixRow, Slot};
 
 use crate::aero;
-use crate::blocks::{Airframe, Refusal, State, Tick, mix, read_airframe, read_state, write_state};
+use crate::blocks::{Airframe, Refusal, SLOTS, STATE_BYTES, State, Tick, UNSCALED_BYTES};
+use crate::blocks::{mix, read_airframe, read_state, write_state};
 use crate::fly::fly;
 use crate::inputs::{AirframeBlock, Row, push, state_bytes};
 use crate::lag;
@@ -28,6 +29,9 @@ pub fn check() -> bool {
         replies(),
         ticks(),
         winds(),
+        scale_blocks(),
+        scales(),
+        thrusts(),
         flights(),
     ]
     .concat();
@@ -197,10 +201,7 @@ fn replies() -> Vec<Case> {
     no_mass.numbers[0] = f32::NAN;
     let mut row_bit = with_rows(1);
     row_bit[166] = 1;
-    let still = state_bytes(&at_rest());
-    let short = read_state(&still[..115]) == Err(Refusal::of(limits::LENGTH));
-    let mut lent = [7; 115];
-    let unwritten = write_state(&at_rest(), &mut lent).is_err() && lent == [7; 115];
+    let short = read_state(&[0; 115]) == Err(Refusal::of(limits::LENGTH));
     let fast = State {
         rates: [0.0, 101.0, 0.0],
         ..at_rest()
@@ -227,14 +228,22 @@ fn replies() -> Vec<Case> {
         ),
         ("16 rows pass", reads(&with_rows(16), 0, 0)),
         ("17 rows get 5", reads(&with_rows(17), 5, 0)),
-        ("115 bytes lent for a state: left as found", unwritten),
+        ("115 bytes lent for a state: left as found", unwritten(115)),
     ]
 }
 
-/// All numbers 0 but w, which is 1.
+/// Whether a state is not written into so many bytes, and they stay.
+fn unwritten(length: usize) -> bool {
+    let mut lent = vec![7; length];
+    let refused = write_state(&at_rest(), &mut lent) == Err(Refusal::of(limits::LENGTH));
+    refused && lent.iter().all(|byte| *byte == 7)
+}
+
+/// All numbers 0 but w, which is 1, and motors as built.
 pub fn at_rest() -> State {
     State {
         attitude: [1.0, 0.0, 0.0, 0.0],
+        thrust_scale: [1.0; SLOTS],
         ..State::zero()
     }
 }
@@ -254,9 +263,11 @@ fn answered(airframe: &Airframe, state: &State, tick: &Tick, answer: u8, place: 
         number: answer,
         place,
     };
+    let bits =
+        |state: &State| -> Vec<u32> { state.numbers().iter().map(|x| x.to_bits()).collect() };
     match answer {
         0 => report.answer == 0,
-        _ => (report, next) == (Report::refused(refusal), *state),
+        _ => report == Report::refused(refusal) && bits(&next) == bits(state),
     }
 }
 
@@ -411,6 +422,195 @@ fn winds() -> Vec<Case> {
     ]
 }
 
+/// 0 of both signs, the smallest number above it, the float below 1, and 1.
+pub const SCALES: [f32; 5] = [0.0, -0.0, f32::from_bits(1), 1f32.next_down(), 1.0];
+
+/// The next float beyond either limit, both infinities and a NaN of each sign.
+pub const NO_SCALES: [f32; 6] = [
+    1f32.next_up(),
+    -f32::from_bits(1),
+    f32::NEG_INFINITY,
+    f32::INFINITY,
+    f32::NAN,
+    -f32::NAN,
+];
+
+/// The state at rest with one of these thrust scales in one slot, each in each.
+pub fn scaled(scales: &[f32]) -> Vec<State> {
+    let slots = (0..SLOTS).flat_map(|slot| scales.iter().map(move |scale| (slot, *scale)));
+    let state = |(slot, scale): (usize, f32)| {
+        let mut state = at_rest();
+        state.thrust_scale[slot] = scale;
+        state
+    };
+    slots.map(state).collect()
+}
+
+fn scale_blocks() -> Vec<Case> {
+    let tired = State {
+        thrust_scale: [0.125, 0.25, 0.375, 0.5, 0.625, 0.75, 0.875, 1.0],
+        ..at_rest()
+    };
+    let block = [&state_bytes(&tired)[..], &[0; 2]].concat();
+    let refused = |length: usize| read_state(&block[..length]) == Err(Refusal::of(limits::LENGTH));
+    let reads = |state: &State| read_state(&state_bytes(state));
+    vec![
+        (
+            "a state block of 148 bytes: its scales",
+            read_state(&block[..148]) == Ok(tired),
+        ),
+        (
+            "a state block of 116 bytes: scales of 1",
+            read_state(&block[..116]) == Ok(at_rest()),
+        ),
+        (
+            "0, 115, 117, 147, 149 bytes: 1",
+            [0, 115, 117, 147, 149].into_iter().all(refused),
+        ),
+        (
+            "a state block has 148 bytes, the older one 116",
+            (STATE_BYTES, UNSCALED_BYTES) == (148, 116),
+        ),
+        (
+            "a refused state block: scales of 0",
+            State::zero().thrust_scale == [0.0; SLOTS],
+        ),
+        (
+            "116, 147, 149 bytes lent for a state: left as found",
+            [116, 147, 149].into_iter().all(unwritten),
+        ),
+        (
+            "a block with a scale at its limits, in each slot: 0",
+            scaled(&SCALES).iter().all(|state| reads(state).is_ok()),
+        ),
+        (
+            "one float beyond, an infinity or NaN, in each slot: 7",
+            (scaled(&NO_SCALES).iter())
+                .all(|state| reads(state) == Err(Refusal::of(limits::STATE))),
+        ),
+    ]
+}
+
+/// Whether a tick leaves the bits of the state's thrust scales.
+fn scales_stay(state: &State) -> bool {
+    let (report, next) = tick::tick(&airframe_of(&plain()), state, &still(0.02));
+    let bits = |state: &State| state.thrust_scale.map(f32::to_bits);
+    report.answer == 0 && bits(&next) == bits(state)
+}
+
+/// Whether ticks of `step` from each state at rest with one of these scales get the answer.
+fn tired(airframe: &Airframe, scales: &[f32], step: f32, (answer, place): (u8, u8)) -> bool {
+    let mut states = scaled(scales).into_iter();
+    states.all(|state| answered(airframe, &state, &still(step), answer, place))
+}
+
+fn scales() -> Vec<Case> {
+    let airframe = airframe_of(&plain());
+    vec![
+        (
+            "a tick with a scale at its limits, in each slot: 0",
+            tired(&airframe, &SCALES, 0.02, (0, 0)),
+        ),
+        (
+            "a tick with a scale beyond its limits: 7",
+            tired(&airframe, &NO_SCALES, 0.02, (7, 0)),
+        ),
+        (
+            "a scale beyond its limits and a step of 0: 7",
+            tired(&airframe, &NO_SCALES, 0.0, (7, 0)),
+        ),
+        (
+            "a scale at its limits and a step of 0: 8",
+            tired(&airframe, &SCALES, 0.0, (8, 0)),
+        ),
+        (
+            "a scale beyond its limits on the zero airframe: 6, place 1",
+            tired(&Airframe::zero(), &NO_SCALES, 0.0, (6, 1)),
+        ),
+        (
+            "a tick leaves the bits of each scale",
+            scaled(&SCALES).iter().all(scales_stay),
+        ),
+    ]
+}
+
+/// The thrust reported where one motor, which no row names, runs at `running` with this scale: max
+/// thrust 10 N, `speed` along body x in still air.
+fn pull(block: &AirframeBlock, scale: f32, running: f32, speed: f32) -> f32 {
+    let mut block = block.clone();
+    block.numbers[34] = 10.0;
+    let mut state = at_rest();
+    state.velocity[0] = speed;
+    state.motors[5] = running;
+    state.thrust_scale[5] = scale;
+    let (report, next) = tick::tick(&airframe_of(&block), &state, &still(0.02));
+    if report.answer == 0 && next.motors == state.motors {
+        report.thrust
+    } else {
+        f32::NAN
+    }
+}
+
+/// A plain airframe with PitchSpeed 20, whose motors have half of their thrust left at 5 m/s where
+/// their share is 0.25.
+fn pitched() -> AirframeBlock {
+    let mut block = plain();
+    block.pitch_speed = true;
+    block.numbers[36] = 20.0;
+    block
+}
+
+/// Two motors at half command that turn the nose to the right and to the left, 1 Nm for each N, the
+/// second half as strong as the first.
+pub fn lopsided() -> (AirframeBlock, State) {
+    let motor = |slot, yaw| Row {
+        servo: false,
+        slot,
+        factors: [0.0, 0.0, yaw],
+    };
+    let mut block = plain();
+    block.rows = vec![motor(0, 1.0), motor(1, -1.0)];
+    let mut state = at_rest();
+    state.motors[..2].fill(0.5);
+    state.thrust_scale[1] = 0.5;
+    (block, state)
+}
+
+/// 0.25 N to the right and 0.125 N to the left, for 1/64 s, with an inertia of 1.
+fn yaws() -> bool {
+    let (block, state) = lopsided();
+    let half = Tick {
+        motors: [0.5; 8],
+        ..still(1.0 / 64.0)
+    };
+    let (report, next) = tick::tick(&airframe_of(&block), &state, &half);
+    same(report.thrust, 0.375) && next.rates == [0.0, 0.0, 0.125 / 64.0]
+}
+
+fn thrusts() -> Vec<Case> {
+    let third = f32::from_bits(0x3EAA_AAAB);
+    vec![
+        (
+            "10 N, running 0.5, scale 0.5, still air: 1.25 N",
+            pull(&plain(), 0.5, 0.5, 0.0) == 1.25,
+        ),
+        (
+            "the same at 5 m/s, PitchSpeed 20: 0.625 N, by the share 0.25",
+            pull(&pitched(), 0.5, 0.5, 5.0) == 0.625,
+        ),
+        (
+            "scale 1/3, running 0.7: 3FD11111, the scale multiplied first",
+            pull(&plain(), third, 0.7, 0.0).to_bits() == 0x3FD1_1111,
+        ),
+        (
+            "scale 0 or -0: no thrust",
+            [0.0, -0.0].map(|scale| pull(&plain(), scale, 1.0, 0.0)) == [0.0; 2],
+        ),
+        ("scale 1: as built", pull(&plain(), 1.0, 0.5, 0.0) == 2.5),
+        ("the weaker of two motors: the nose turns to it", yaws()),
+    ]
+}
+
 /// The lines of two ticks of free fall.
 const FALL: [&str; 2] = [
     "1 0 00000000 00000000 3B1CE80A 00000000 00000000 3E1CE80A 3F800000 00000000 00000000 \
@@ -425,6 +625,14 @@ const NO_FALL: [&str; 2] = [
      00000000 00000000 00000000 00000000",
     "2 10 00000000 00000000 00000000 00000000 00000000 00000000 3F800000 00000000 00000000 \
      00000000 00000000 00000000 00000000",
+];
+
+/// The lines of a fall with a state of 116 bytes: fly takes 148, and the tick then begins in the middle
+/// of the first one, with a step of 0.
+const OLDER_FALL: [&str; 2] = [
+    "1 8 00000000 00000000 00000000 00000000 00000000 00000000 3F800000 00000000 00000000 \
+     00000000 00000000 00000000 00000000",
+    "0 1 0",
 ];
 
 /// A fall's input: no rows, no wash, from rest two ticks of 1/64 s in these winds.
@@ -443,6 +651,12 @@ fn fall_in(winds: [[f32; 3]; 2]) -> Vec<u8> {
 pub fn fall() -> Vec<u8> {
     let fallen = f32::from_bits(0x3E1C_E80A);
     fall_in([[0.0; 3], [0.0, 0.0, fallen]])
+}
+
+/// The fall without its thrust scales.
+pub fn older_fall() -> Vec<u8> {
+    let (fall, at) = (fall(), plain().bytes().len());
+    [&fall[..at + UNSCALED_BYTES], &fall[at + STATE_BYTES..]].concat()
 }
 
 pub fn fall_in_nan() -> Vec<u8> {
@@ -468,7 +682,12 @@ fn flights() -> Vec<Case> {
         ("fly of nothing", fly(&[]) == ["0 1 0"]),
         ("fly of a bad header alone", fly(&[0x20, 0]) == ["0 2 0"]),
         ("fly of a short airframe", fly(&fall[..165]) == ["0 1 0"]),
-        ("fly of a short state", fly(&fall[..281]) == ["0 1 0"]),
-        ("fly without ticks", fly(&fall[..282]).is_empty()),
+        ("fly of a short state", fly(&fall[..313]) == ["0 1 0"]),
+        ("fly of 116 bytes of state", fly(&fall[..282]) == ["0 1 0"]),
+        (
+            "fly of 116 bytes of state and two ticks: it takes 148",
+            fly(&older_fall()) == OLDER_FALL,
+        ),
+        ("fly without ticks", fly(&fall[..314]).is_empty()),
     ]
 }

@@ -2,7 +2,10 @@
 //! and damaged blocks.
 
 use crate::arguments::SPECIAL;
-use crate::blocks::{AIRFRAME_NUMBERS, SLOTS, State, WASH_NUMBERS, write_state};
+use crate::blocks::{
+    AIRFRAME_NUMBERS, SLOTS, STATE_BYTES, State, TICK_BYTES, TICK_NUMBERS, UNSCALED_BYTES,
+    WASH_NUMBERS, write_state,
+};
 use crate::limits::{self, Range};
 use crate::rng::Rng;
 
@@ -54,8 +57,8 @@ pub fn push(bytes: &mut Vec<u8>, numbers: &[f32]) {
 }
 
 pub fn state_bytes(state: &State) -> Vec<u8> {
-    let mut bytes = vec![0; crate::blocks::STATE_BYTES];
-    // 116 bytes are lent, so the write is never refused.
+    let mut bytes = vec![0; STATE_BYTES];
+    // As many bytes as it needs are lent, so the write is never refused.
     let _ = write_state(state, &mut bytes);
     bytes
 }
@@ -277,7 +280,25 @@ fn running(rng: &mut Rng, range: Range) -> [f32; SLOTS] {
     })
 }
 
-/// A state within the envelope: level, inverted, stalled, tail first, at rest, or at the edge.
+/// Thrust scales: in half of the states all are 1, in the others each is anywhere in its range, often
+/// 0, -0, 1 or subnormal.
+pub fn scales(rng: &mut Rng) -> [f32; SLOTS] {
+    if rng.once_in(2) {
+        return [1.0; SLOTS];
+    }
+    running(rng, limits::SCALE)
+}
+
+/// A state within the envelope, as `state` gives them, with any thrust scales.
+pub fn tired_state(rng: &mut Rng) -> State {
+    State {
+        thrust_scale: scales(rng),
+        ..state(rng)
+    }
+}
+
+/// A state within the envelope: level, inverted, stalled, tail first, at rest, or at the edge. The
+/// motors are as built.
 pub fn state(rng: &mut Rng) -> State {
     let degrees = |rng: &mut Rng, low: f32, high: f32| f64::from(rng.between(low, high));
     let yaw = if rng.once_in(3) {
@@ -299,6 +320,7 @@ pub fn state(rng: &mut Rng) -> State {
         rates: three(rng, 1.0),
         motors: running(rng, limits::MOTOR),
         servos: running(rng, limits::SERVO),
+        thrust_scale: [1.0; SLOTS],
     };
     match rng.below(8) {
         0 => state.attitude = attitude(yaw, degrees(rng, -5.0, 5.0), 180.0),
@@ -411,12 +433,12 @@ fn wind(rng: &mut Rng) -> [f32; 3] {
 }
 
 /// The 20 numbers of a tick. `calm` keeps to plausible winds and commands.
-pub fn tick(rng: &mut Rng, calm: bool) -> [f32; 20] {
-    let mut tick = [0.0; 20];
+pub fn tick(rng: &mut Rng, calm: bool) -> [f32; TICK_NUMBERS] {
+    let mut tick = [0.0; TICK_NUMBERS];
     tick[0] = if calm { 0.01 } else { step(rng) };
     let wind = if calm { three(rng, 4.0) } else { wind(rng) };
     tick[1..4].copy_from_slice(&wind);
-    for at in 4..20 {
+    for at in 4..TICK_NUMBERS {
         let range = if at < 12 {
             limits::MOTOR
         } else {
@@ -435,7 +457,7 @@ pub fn tick(rng: &mut Rng, calm: bool) -> [f32; 20] {
 pub fn flight(rng: &mut Rng, most: usize) -> Vec<u8> {
     let calm = rng.once_in(3);
     let mut bytes = airframe(rng).bytes();
-    bytes.extend(state_bytes(&state(rng)));
+    bytes.extend(state_bytes(&tired_state(rng)));
     for _ in 0..1 + rng.below(most) {
         push(&mut bytes, &tick(rng, calm));
     }
@@ -443,7 +465,7 @@ pub fn flight(rng: &mut Rng, most: usize) -> Vec<u8> {
 }
 
 /// A calm tick; where `steps` vary, its step is any that is accepted.
-fn calm_tick(rng: &mut Rng, steps: bool) -> [f32; 20] {
+fn calm_tick(rng: &mut Rng, steps: bool) -> [f32; TICK_NUMBERS] {
     let (least, most) = limits::STEP_S;
     let mut calm = tick(rng, true);
     if steps {
@@ -462,7 +484,7 @@ pub fn long_flight(rng: &mut Rng, most: usize) -> Vec<u8> {
     let gust_once_in = rng.pick(&[8, 128, 1024, 1024]);
     let steps = rng.once_in(2);
     let mut bytes = airframe(rng).bytes();
-    bytes.extend(state_bytes(&state(rng)));
+    bytes.extend(state_bytes(&tired_state(rng)));
     let mut held = calm_tick(rng, steps);
     for _ in 0..1 + rng.below(most) {
         if rng.once_in(held_once_in) {
@@ -492,13 +514,13 @@ pub fn damaged(rng: &mut Rng) -> Vec<u8> {
 
 fn with_state_and_tick(rng: &mut Rng, airframe: &AirframeBlock) -> Vec<u8> {
     let mut bytes = airframe.bytes();
-    bytes.extend(state_bytes(&state(rng)));
+    bytes.extend(state_bytes(&tired_state(rng)));
     push(&mut bytes, &any_tick(rng));
     bytes
 }
 
 /// A calm or a wild tick.
-fn any_tick(rng: &mut Rng) -> [f32; 20] {
+fn any_tick(rng: &mut Rng) -> [f32; TICK_NUMBERS] {
     let calm = rng.once_in(2);
     tick(rng, calm)
 }
@@ -561,17 +583,18 @@ fn bad_number(rng: &mut Rng, mut airframe: AirframeBlock) -> Vec<u8> {
 }
 
 fn bad_state(rng: &mut Rng, airframe: AirframeBlock) -> Vec<u8> {
-    let mut state = state(rng);
-    let axis = rng.below(3);
-    match rng.below(6) {
+    let mut state = tired_state(rng);
+    let (axis, slot) = (rng.below(3), rng.below(SLOTS));
+    match rng.below(8) {
         0 => state.position[axis] = outside(rng, limits::POSITION),
         1 => state.velocity[axis] = outside(rng, limits::VELOCITY),
         2 => state.rates[axis] = outside(rng, limits::RATE),
         3 => {
             state.attitude = rng.pick(&[[0.9, 0.0, 0.0, 0.0], [0.8, 0.7, 0.0, 0.0], [f32::NAN; 4]])
         }
-        4 => state.motors[axis] = outside(rng, limits::MOTOR),
-        _ => state.servos[axis] = outside(rng, limits::SERVO),
+        4 => state.motors[slot] = outside(rng, limits::MOTOR),
+        5 => state.servos[slot] = outside(rng, limits::SERVO),
+        _ => state.thrust_scale[slot] = outside(rng, limits::SCALE),
     }
     let mut bytes = airframe.bytes();
     bytes.extend(state_bytes(&state));
@@ -583,7 +606,8 @@ fn bad_state(rng: &mut Rng, airframe: AirframeBlock) -> Vec<u8> {
 fn cut(rng: &mut Rng, airframe: AirframeBlock) -> Vec<u8> {
     let mut bytes = with_state_and_tick(rng, &airframe);
     let end = airframe.bytes().len();
-    let boundary = rng.pick(&[0, 2, 166, end, end + 116, end + 196]);
+    let (unscaled, ticks) = (end + UNSCALED_BYTES, end + STATE_BYTES);
+    let boundary = rng.pick(&[0, 2, 166, end, unscaled, ticks, ticks + TICK_BYTES]);
     let length = (boundary + rng.below(3)).saturating_sub(1);
     bytes.resize(length, 0);
     bytes

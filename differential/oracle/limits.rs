@@ -1,4 +1,5 @@
-//! Document 01's limits, and the wind's of document 02. NaN is outside all of them; -0 is 0.
+//! Document 01's limits, and document 02's of the wind and the thrust scales. NaN is outside all of
+//! them; -0 is 0.
 
 /// Wrong length.
 pub const LENGTH: u8 = 1;
@@ -72,6 +73,8 @@ pub const RATE: Range = (-100.0, 100.0);
 pub const NORM: Range = (0.9, 1.1);
 pub const MOTOR: Range = (0.0, 1.0);
 pub const SERVO: Range = (-1.0, 1.0);
+/// Each motor's thrust scale.
+pub const SCALE: Range = (0.0, 1.0);
 pub const STEP_S: Range = (1.0 / 1024.0, 0.02);
 /// Each component of a tick's wind.
 pub const WIND_MPS: Range = (-200.0, 200.0);

@@ -1,13 +1,22 @@
-//! The library's rows of numbers: an airframe's 106, a state's 29, a tick's 20. A second reading of
-//! include/bench.h.
+//! The library's rows of numbers: an airframe's 106, a state's 37, a tick's 20, a report's 3. A second
+//! reading of include/bench.h.
 
 use stable_flight::Vec3;
 
-use crate::blocks::{AIRFRAME_NUMBERS, Airframe, SLOTS, State, Tick, WASH_NUMBERS};
+use crate::blocks::{
+    AIRFRAME_NUMBERS, Airframe, SLOTS, STATE_NUMBERS, State, TICK_NUMBERS, Tick, WASH_NUMBERS,
+};
 
-pub type AirframeRow = [f32; 106];
-pub type StateRow = [f32; 29];
-pub type TickRow = [f32; 20];
+/// How many numbers an airframe's and a report's row have.
+pub const AIRFRAME_ROW: usize = 106;
+pub const REPORT_ROW: usize = 3;
+
+pub type AirframeRow = [f32; AIRFRAME_ROW];
+pub type StateRow = [f32; STATE_NUMBERS];
+pub type TickRow = [f32; TICK_NUMBERS];
+
+/// Where the thrust scales of a state's row start.
+pub const SCALES_AT: usize = 29;
 
 const FALLOFF_AT: usize = AIRFRAME_NUMBERS + WASH_NUMBERS;
 const WASH_AT: usize = FALLOFF_AT + 1;
@@ -47,7 +56,7 @@ fn is_set(number: f32) -> bool {
 }
 
 pub fn airframe_row(airframe: &Airframe) -> AirframeRow {
-    let mut row = [0.0; 106];
+    let mut row = [0.0; AIRFRAME_ROW];
     put(&mut row, 0, &airframe.numbers);
     put(
         &mut row,
@@ -74,13 +83,14 @@ pub fn airframe_of(row: &AirframeRow) -> Airframe {
 }
 
 pub fn state_row(state: &State) -> StateRow {
-    let mut row = [0.0; 29];
+    let mut row = [0.0; STATE_NUMBERS];
     put(&mut row, 0, &state.position);
     put(&mut row, 3, &state.velocity);
     put(&mut row, 6, &state.attitude);
     put(&mut row, 10, &state.rates);
     put(&mut row, 13, &state.motors);
     put(&mut row, 21, &state.servos);
+    put(&mut row, SCALES_AT, &state.thrust_scale);
     row
 }
 
@@ -92,11 +102,12 @@ pub fn state_of(row: &StateRow) -> State {
         rates: part(row, 10),
         motors: part(row, 13),
         servos: part(row, 21),
+        thrust_scale: part(row, SCALES_AT),
     }
 }
 
 pub fn tick_row(tick: &Tick) -> TickRow {
-    let mut row = [0.0; 20];
+    let mut row = [0.0; TICK_NUMBERS];
     row[0] = tick.step;
     put(&mut row, 1, &tick.wind);
     put(&mut row, 4, &tick.motors);

@@ -1,5 +1,5 @@
-//! The tick and the run of document 01: its tests, and 02's of the wind, around the original
-//! `begin`, `loads` and `step`.
+//! The tick and the run of document 01: its tests, and 02's of the wind and the thrust scales, around
+//! the original `set_thrust_scale`, `begin`, `loads` and `step`.
 
 use stable_flight::mixers::TableMixer;
 use stable_flight::nalgebra::UnitQuaternion;
@@ -79,8 +79,8 @@ fn fly_on(airframe: &Airframe, state: &State, tick: &Tick) -> (Report, State) {
     (report, state_after(&body, &mut wing))
 }
 
-/// The original wing with the airframe's slots and the state's running values. `FixedWing::new`
-/// itself would lay the motors out by an arm of 0 and a yaw torque of the motor arm.
+/// The original wing with the airframe's slots and the state's running values and thrust scales.
+/// `FixedWing::new` itself would lay the motors out by an arm of 0 and a yaw torque of the motor arm.
 pub(crate) fn wing(airframe: &Airframe, state: &State) -> FixedWing {
     let rotors = Rotors {
         motor_arm_m: airframe.at(41),
@@ -100,6 +100,7 @@ pub(crate) fn wing(airframe: &Airframe, state: &State) -> FixedWing {
     let surfaces = wing.surfaces_mut();
     surfaces.set_weights(airframe.weights);
     surfaces.set_running(state.servos);
+    wing.set_thrust_scale(state.thrust_scale);
     wing
 }
 
@@ -123,6 +124,7 @@ pub(crate) fn state_after(body: &Body, wing: &mut FixedWing) -> State {
         rates: array(body.angular_velocity_radps),
         motors: wing.motors_mut().running(),
         servos: wing.surfaces_mut().running(),
+        thrust_scale: wing.motors_mut().thrust_scale(),
     }
 }
 

@@ -26,12 +26,13 @@ use Rattle.arrays.specs.Flight.{flightNumbers, flightIn, quatIn, slotsIn
 slots-again : {X : Type 0} (d : X) (xs : List X) → length xs ≡ 8 → slots (λ (k : ℕ). getD xs k d) ≡ xs
 slots-again d xs e = map-slots d (λ x. x) xs e ∙ map-id xs
 
-pub flight-again : (f : Flight) → length (f .motors) ≡ 8 → length (f .servos) ≡ 8 → flightIn (flightNumbers f) ≡ f
+pub flight-again : (f : Flight) → length (f .motors) ≡ 8 → length (f .servos) ≡ 8 → length (f .«thrust_scale») ≡ 8 → flightIn (flightNumbers f) ≡ f
 unfolding flightIn flightNumbers vecIn quatIn slotsIn
-flight-again f m s = λ i. record {
+flight-again f m s c = λ i. record {
   body = f .body;
   motors = slots-again nan (f .motors) m i;
   servos = slots-again nan (f .servos) s i;
+  «thrust_scale» = slots-again nan (f .«thrust_scale») c i;
 }
 
 pub tick-again : (t : Tick) → length (t .motors) ≡ 8 → length (t .servos) ≡ 8 → tickIn (tickNumbers t) ≡ t

@@ -7,7 +7,7 @@ use Rattle.body.specs.declared.Body.{Body}
 use Rattle.flight.specs.declared.Flight.{Flight}
 use Rattle.flight.specs.declared.Tick.{Tick}
 use Rattle.mixers.specs.Slots.{at, slots}
-use Rattle.state_block.specs.Layout.{attitudeAt, motorsAt, numberBytes, ratesAt, servosAt, stateBytes, velocityAt}
+use Rattle.state_block.specs.Layout.{attitudeAt, motorsAt, numberBytes, ratesAt, scalesAt, servosAt, stateBytes, velocityAt}
 use Rattle.state_block.specs.Layout.{motorCommandsAt, servoCommandsAt, tickBytes, windAt}
 use Rattle.vector.specs.Rotation.{quat}
 use Rattle.vector.specs.Vector.{vec}
@@ -41,6 +41,7 @@ flightIn xs = record {
   };
   motors = slotsIn xs (motorsAt / numberBytes);
   servos = slotsIn xs (servosAt / numberBytes);
+  «thrust_scale» = slotsIn xs (scalesAt / numberBytes);
 }
 
 -- the tick of an array
@@ -68,7 +69,7 @@ bodyThen b more =
     (vecThen (b .«velocity_ned_mps») (quatThen (b .attitude) (vecThen (b .«angular_velocity_radps») more)))
 
 unfoldable pub flightNumbers : Flight → List Float
-flightNumbers f = bodyThen (f .body) (slotsThen (f .motors) (slotsThen (f .servos) []))
+flightNumbers f = bodyThen (f .body) (slotsThen (f .motors) (slotsThen (f .servos) (slotsThen (f .«thrust_scale») [])))
 
 -- the array of a tick: step, wind, motor commands, servo commands
 unfoldable pub tickNumbers : Tick → List Float

@@ -36,6 +36,8 @@ const MOTORS_AT: usize = state_block::MOTORS_AT / state_block::NUMBER_BYTES;
 
 const SERVOS_AT: usize = state_block::SERVOS_AT / state_block::NUMBER_BYTES;
 
+const SCALES_AT: usize = state_block::SCALES_AT / state_block::NUMBER_BYTES;
+
 const WIND_AT: usize = state_block::WIND_AT / state_block::NUMBER_BYTES;
 
 const MOTOR_COMMANDS_AT: usize = state_block::MOTOR_COMMANDS_AT / state_block::NUMBER_BYTES;
@@ -109,6 +111,7 @@ pub fn flight_in(xs: &[f32]) -> Flight
     let angular_velocity_radps = vec_in(xs, RATES_AT);
     let motors = slots_in(xs, MOTORS_AT);
     let servos = slots_in(xs, SERVOS_AT);
+    let thrust_scale = slots_in(xs, SCALES_AT);
     let body = Body {
         position_ned_m,
         velocity_ned_mps,
@@ -119,6 +122,7 @@ pub fn flight_in(xs: &[f32]) -> Flight
         body,
         motors,
         servos,
+        thrust_scale,
     }
 }
 
@@ -149,6 +153,7 @@ pub fn flight_numbers(f: Flight) -> [f32; STATE_NUMBERS]
     let o = b.angular_velocity_radps;
     let m = f.motors;
     let s = f.servos;
+    let c = f.thrust_scale;
     [
         p.x,
         p.y,
@@ -179,6 +184,14 @@ pub fn flight_numbers(f: Flight) -> [f32; STATE_NUMBERS]
         s[5],
         s[6],
         s[7],
+        c[0],
+        c[1],
+        c[2],
+        c[3],
+        c[4],
+        c[5],
+        c[6],
+        c[7],
     ]
 }
 

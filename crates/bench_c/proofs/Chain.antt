@@ -13,7 +13,7 @@ use Rattle.answers.specs.Answers.{numberOf}
 use Rattle.answers.specs.declared.Answer.{Answer}
 use Rattle.arrays.proofs.RoundTrip.{flight-again}
 use Rattle.arrays.specs.Airframe.{airframeIn, airframeNumbersCount}
-use Rattle.arrays.specs.Flight.{flightIn, tickIn}
+use Rattle.arrays.specs.Flight.{flightIn, slotsIn, tickIn}
 use Rattle.flight.specs.declared.Flight.{Flight}
 use Rattle.flight.specs.declared.Tick.{Tick}
 use Rattle.motors.specs.Motor.{spinOf}
@@ -35,12 +35,16 @@ refused-left : (state : List Float) (x : Answer) → isDone x ≡ false → Left
 unfolding stateAfterTick refusedOf
 refused-left state x e = rw e refl
 
-next-left : (a : Airframe) (state : List Float) (f : Flight) (t : Tick) → Left state (nextOf a f t)
+next-left : (a : Airframe) (state : List Float) (f : Flight) (t : Tick) → length (f .«thrust_scale») ≡ 8 → Left state (nextOf a f t)
 unfolding stateAfterTick nextOf nextFrom steppedOf spunOf movedOf spinOf moveTo
-next-left a state f t = flight-again _ refl refl
+next-left a state f t e = flight-again _ refl refl e
+
+scales-are-eight : (state : List Float) → length (flightIn state .«thrust_scale») ≡ 8
+unfolding flightIn slotsIn
+scales-are-eight state = refl
 
 tick-left : (a : Airframe) (state : List Float) (t : Tick) → Left state (tickOf a (flightIn state) t)
-tick-left a state t = of-tick (Left state) a (flightIn state) t (λ x n. refused-left state x (some-eqb (numberOf x) n)) (λ p. next-left a state (flightIn state) t)
+tick-left a state t = of-tick (Left state) a (flightIn state) t (λ x n. refused-left state x (some-eqb (numberOf x) n)) (λ p. next-left a state (flightIn state) t (scales-are-eight state))
 
 -- ---- one call that ticks with the airframe a, whatever form it has
 abbrev TicksWith : Airframe → (List Float → List Float → List Float → TickOutcome) → Type 0

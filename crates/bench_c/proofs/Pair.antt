@@ -82,6 +82,7 @@ arrays-mirror h = record {
   body = h .body;
   motors = ap (λ (m : List Float). slots (λ (k : ℕ). at m k)) (h .motors);
   servos = ap (λ (m : List Float). slots (λ (k : ℕ). at m k)) (h .servos);
+  scale = ap (λ (m : List Float). slots (λ (k : ℕ). at m k)) (h .scale);
 }
 
 pair-mirror : (state reflected : List Float) (r r' : Ran) → RanRel r r' → numberOf (r .answer) ≡ 0 → FlightRel (flightIn (stateAfterRun state r)) (flightIn (stateAfterRun reflected r'))

@@ -1,4 +1,4 @@
--- What a state inside the envelope tells of its velocity, its attitude's N and its running values. Assumes nothing.
+-- What a state inside the envelope tells of its velocity, its attitude's N, its running values and its thrust scales. Assumes nothing.
 use Prim.Native.Nat.{_<_, ℕ}
 use borrow.Author.Tests.{eq-eqb}
 use mathlib.Core.Path.{_∙_, _≡_, sym}
@@ -26,13 +26,14 @@ module _ (f : Flight) (e : outsideOf f ≡ 0) where
       let n = after-none _ _ (or-none _ _ (or-none _ _ (or-none _ _ e .1) .1) .0) in
       inside-within (sym (none-attitude _) ∙ eq-eqb _ _ n)
 
-  slots-none : (slotsOutside nought one (f .motors) ≡ 0) × (slotsOutside minusOne one (f .servos) ≡ 0)
+  slots-none : (slotsOutside nought one (f .motors) ≡ 0) × (slotsOutside minusOne one (f .servos) ≡ 0) × (slotsOutside nought one (f .«thrust_scale») ≡ 0)
   unfolding outsideOf
   slots-none =
       let after-velocity = or-none _ _ (or-none _ _ e .1) .1 in
       let after-rates = or-none _ _ (or-none _ _ after-velocity .1) .1 in
-      let b = or-none _ _ after-rates in
-      (after-none _ _ (b .0), after-none _ _ (b .1))
+      let motors = or-none _ _ after-rates in
+      let servos = or-none _ _ (motors .1) in
+      (after-none _ _ (motors .0), after-none _ _ (servos .0), after-none _ _ (servos .1))
 
   pub motor-within : (k : ℕ) → k < 8 → Within nought one (at (f .motors) k)
   unfolding slotsOutside slotInside
@@ -41,3 +42,7 @@ module _ (f : Flight) (e : outsideOf f ≡ 0) where
   pub servo-within : (k : ℕ) → k < 8 → Within minusOne one (at (f .servos) k)
   unfolding slotsOutside slotInside
   servo-within k l = inside-within (all-pass (slotInside minusOne one (f .servos)) 8 (slots-none .1) k l)
+
+  pub scale-within : (k : ℕ) → k < 8 → Within nought one (at (f .«thrust_scale») k)
+  unfolding slotsOutside slotInside
+  scale-within k l = inside-within (all-pass (slotInside nought one (f .«thrust_scale»)) 8 (slots-none .2) k l)

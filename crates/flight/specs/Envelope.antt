@@ -1,5 +1,5 @@
--- The envelope (01, "Envelope"): position within ±1,000,000, velocity ±1,000, N in 0.9..1.1, rates ±100, motors 0..1, servos -1..1,
--- all slots. One ordered definition that names the first test that breaks; a NaN is outside, -0 is 0. Definitions only.
+-- The envelope (01, "Envelope"; 02, 2): position within ±1,000,000, velocity ±1,000, N in 0.9..1.1, rates ±100, motors 0..1, servos
+-- -1..1, thrust scales 0..1, all slots. One ordered definition that names the first test that breaks; a NaN is outside, -0 is 0. Definitions only.
 use Prim.Native.Nat.{ℕ}
 use lib.Dec.{eqb}
 use lib.Ieee.{Float, low, neg}
@@ -26,6 +26,7 @@ zeroFlight = record {
   };
   motors = replicate 8 nought;
   servos = replicate 8 nought;
+  «thrust_scale» = replicate 8 nought;
 }
 
 -- a vector's components, each within ±limit
@@ -46,7 +47,7 @@ unfoldable pub attitudeOutside : Quaternion → ℕ
 attitudeOutside q = cond (inside (rounded 9 10) (rounded 11 10) (quatNorm q)) 0 1
 
 -- a line for each part, as they stand in a state, after as many tests as stand before it: 3 of position, 3 of velocity, the
--- attitude, 3 of rates, 8 motors, 8 servos
+-- attitude, 3 of rates, 8 motors, 8 servos, 8 thrust scales
 unfoldable pub outsideOf : Flight → ℕ
 outsideOf f =
     firstOf
@@ -56,6 +57,7 @@ outsideOf f =
     ∷ after 7 (vecOutside (rounded 100 1) (f .body .«angular_velocity_radps»))
     ∷ after 10 (slotsOutside nought one (f .motors))
     ∷ after 18 (slotsOutside minusOne one (f .servos))
+    ∷ after 26 (slotsOutside nought one (f .«thrust_scale»))
     ∷ [])
 
 -- an accepted state

@@ -1,5 +1,5 @@
 -- The reflection of a state and of a tick (01, "Reflection negates"): a state's body is reflected, a tick's wind turns in east,
--- all else stays. And what it is for one state or tick to be the other's reflection as numbers. Definitions only.
+-- all else stays, the thrust scales too (02, 2). And what it is for one state or tick to be the other's reflection as numbers. Definitions only.
 use mathlib.Core.Bool.{false}
 use mathlib.Core.Path.{_≡_}
 use Rattle.body.specs.Reflection.{BodyRel, reflectBody}
@@ -8,7 +8,12 @@ use Rattle.flight.specs.declared.Flight.{Flight}
 use Rattle.flight.specs.declared.Tick.{Tick}
 
 unfoldable pub reflectFlight : Flight → Flight
-reflectFlight f = record { body = reflectBody (f .body); motors = f .motors; servos = f .servos }
+reflectFlight f = record {
+  body = reflectBody (f .body);
+  motors = f .motors;
+  servos = f .servos;
+  «thrust_scale» = f .«thrust_scale»;
+}
 
 unfoldable pub reflectTick : Tick → Tick
 reflectTick t = record {
@@ -18,11 +23,12 @@ reflectTick t = record {
   servos = t .servos;
 }
 
--- the same, compared as numbers; the running values are even the same data
+-- the same, compared as numbers; the running values and the thrust scales are even the same data
 pub record FlightRel (f f' : Flight) : Type 0 where
   pub body : BodyRel (f .body) (f' .body)
   pub motors : f' .motors ≡ f .motors
   pub servos : f' .servos ≡ f .servos
+  pub scale : f' .«thrust_scale» ≡ f .«thrust_scale»
 
 pub record TickRel (t t' : Tick) : Type 0 where
   pub step : t' .«step_s» ≡ t .«step_s»

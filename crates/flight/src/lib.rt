@@ -8,11 +8,13 @@ use body::Body;
 use vector::Quaternion;
 use vector::Vec3;
 
-// The body on NED world axes and FRD body axes, and the commands that motors and servos run at.
+// The body on NED world axes and FRD body axes, the commands that motors and servos run at, and how strong each motor is.
 pub struct Flight {
     pub body: Body,
     pub motors: [f32; 8],
     pub servos: [f32; 8],
+    // By motor slot: 1 as built, 0 gives no thrust (02, 2). No tick changes them.
+    pub thrust_scale: [f32; 8],
 }
 
 // One tick's step, wind (NED) and commands.
@@ -37,6 +39,7 @@ impl Flight {
         };
         let motors = [0.0; 8];
         let servos = [0.0; 8];
+        let thrust_scale = [0.0; 8];
         let body = Body {
             position_ned_m: zero,
             velocity_ned_mps: zero,
@@ -47,6 +50,7 @@ impl Flight {
             body,
             motors,
             servos,
+            thrust_scale,
         }
     }
 
@@ -57,19 +61,24 @@ impl Flight {
         let body = self.body;
         let running = self.motors;
         let positions = self.servos;
+        let thrust_scale = self.thrust_scale;
         let position = vec_outside(body.position_ned_m, 1000000.0);
         let velocity = ordered::after(3, vec_outside(body.velocity_ned_mps, 1000.0));
         let attitude = ordered::after(6, attitude_outside(body.attitude));
         let rates = ordered::after(7, vec_outside(body.angular_velocity_radps, 100.0));
         let motors = ordered::after(10, slots_outside(running, 0.0, 1.0));
         let servos = ordered::after(18, slots_outside(positions, -1.0, 1.0));
+        let scales = ordered::after(26, slots_outside(thrust_scale, 0.0, 1.0));
         ordered::or_else(
             position,
             ordered::or_else(
                 velocity,
                 ordered::or_else(
                     attitude,
-                    ordered::or_else(rates, ordered::or_else(motors, servos)),
+                    ordered::or_else(
+                        rates,
+                        ordered::or_else(motors, ordered::or_else(servos, scales)),
+                    ),
                 ),
             ),
         )
@@ -140,19 +149,21 @@ impl Flight {
         let body = self.body;
         let running = self.motors;
         let positions = self.servos;
+        let thrust_scale = self.thrust_scale;
         let position = body.position_ned_m.is_inside(1000000.0);
         let velocity = body.velocity_ned_mps.is_inside(1000.0);
         let attitude = float::inside(body.attitude.norm_squared(), 0.9, 1.1);
         let rates = body.angular_velocity_radps.is_inside(100.0);
         let motors = slots_inside(running, 0.0, 1.0);
         let servos = slots_inside(positions, -1.0, 1.0);
+        let scales = slots_inside(thrust_scale, 0.0, 1.0);
         ordered::both(
             position,
             ordered::both(
                 velocity,
                 ordered::both(
                     attitude,
-                    ordered::both(rates, ordered::both(motors, servos)),
+                    ordered::both(rates, ordered::both(motors, ordered::both(servos, scales))),
                 ),
             ),
         )
@@ -160,17 +171,19 @@ impl Flight {
 }
 
 impl Flight {
-    // The reflection of left and right.
+    // The reflection of left and right: motors and servos run as they do, and are as strong.
     pub fn reflected(self) -> Self
         ensures { λ r. ⌜ r ≡ Reflection.reflectFlight self ⌝ }
     {
         let body = self.body;
         let motors = self.motors;
         let servos = self.servos;
+        let thrust_scale = self.thrust_scale;
         Flight {
             body: body.reflected(),
             motors,
             servos,
+            thrust_scale,
         }
     }
 }

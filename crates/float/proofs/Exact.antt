@@ -1,16 +1,18 @@
--- A value that its format holds is its own rounding, so a bound that the format holds bounds a rounded result; a factor up to 1 takes a value toward zero. Assumes nothing.
-use Prim.Native.Nat.{_%_, _*_, _+_, _-_, _<_, _^_, _≤_, suc, zero, ℕ}
+-- A value that its format holds is its own rounding, so a bound that the format holds bounds a rounded result; a factor up to 1 takes a value toward zero, and a factor of 1 leaves it. Assumes nothing.
+use Prim.Native.Nat.{_%_, _*_, _+_, _-_, _/_, _<_, _^_, _≤_, suc, zero, ℕ}
 use lib.Dec.{T, eqb, leb, leb→le, ltb, ltb→lt}
-use lib.Ieee.{Float, Format, down, emax, fin, fits, inf, le, low, mul, nan, prec, round, up}
+use lib.Ieee.{Float, Format, down, emax, fin, fits, hid, inf, le, low, mul, nan, ofBits, prec, round, size, toBits, top, up}
+use lib.Ieee.Bits.{ofBits-toBits}
 use lib.Ieee.Exact.{HasValue, round-exact}
-use lib.Ieee.Fits.{and-l, and-r, down-pos, reach}
+use lib.Ieee.Fits.{and-l, and-r, down-pos, reach, round-fits}
+use lib.Ieee.Nearest.{div-same}
 use lib.Ieee.Positive.{den, den-pos}
 use lib.Ieee.Scale.{finite}
 use lib.IntN.{negsuc, pos, ℤ}
 use lib.Pow.{pow-add, pow-lt, pow-mono, pow-pos}
-use mathlib.Core.Bool.{Bool, _&&_, false, true}
+use mathlib.Core.Bool.{Bool, _&&_, cond, false, true}
 use mathlib.Core.Path.{_∙_, _≡_, ap, refl, sym}
-use native.Mathlib.Nat.{le-of-suc-le-suc, le-refl, lt-of-lt-of-le, lt-of-not-le, mul-assoc, mul-comm, mul-le-mul, mul-lt-mul-of-pos-right, mul-one, not-le-of-lt, zero-mul}
+use native.Mathlib.Nat.{le-of-suc-le-suc, le-refl, lt-of-lt-of-le, lt-of-not-le, mul-assoc, mul-comm, mul-le-mul, mul-lt-mul-of-pos-right, mul-one, mul-right-comm, not-le-of-lt, one-mul, zero-mul}
 use native.Mathlib.Omega.{arith}
 use Rattle.float.proofs.Integers.{small}
 use Rattle.float.proofs.Order.{Cross, le-trans-float, nn, pp}
@@ -97,3 +99,26 @@ mul-shrinks f x a p g q o h = le-trans-float (mul f x a) (mul f x one) x (mul-mo
 
 pub mul-shrinks-up : (f : Format) (x a : Float) → T (finite x) → T (fits f x) → T (finite a) → T (le x nought) → T (le a one) → T (le x (mul f x a))
 mul-shrinks-up f x a p g q o h = le-trans-float x (mul f x one) (mul f x a) (mul-one-ge f x p g) (mul-anti-r f x one a p tt q o h)
+
+-- a value that is m * 2 ^ e with the sign s has the bits that are written for it, so if the format holds both they are the same data
+same-bits : (f : Format) (x : Float) (s : Bool) (m : ℕ) (e : ℤ) → HasValue x s (m * up e) (down e) → toBits f x ≡ toBits f (fin s m e)
+unfolding toBits
+same-bits f (fin t n d) s m e v =
+    let bits : Bool → ℕ → ℕ = λ u a. cond u (top f) 0 + (size a - prec f) * hid f + a / 2 ^ (size a - prec f) in
+    let l = 2 ^ low f in
+    ap (λ (u : Bool). bits u (n * up d * l / down d)) (v .0)
+    ∙ ap (bits s) (div-same (n * up d * l) (down d) (m * up e * l) (down e) (down-pos d) (down-pos e) (mul-right-comm (n * up d) l (down e) ∙ ap (λ (a : ℕ). a * l) (v .1) ∙ mul-right-comm (m * up e) (down d) l))
+
+pub round-held : (f : Format) (s : Bool) (m : ℕ) (e : ℤ) → T (fits f (fin s m e)) → round f s (m * up e) (down e) ≡ fin s m e
+round-held f s m e h =
+    let x = round f s (m * up e) (down e) in
+    sym (ofBits-toBits f x (round-fits f s (m * up e) (down e))) ∙ ap (ofBits f) (same-bits f x s m e (own-value f s m e h)) ∙ ofBits-toBits f (fin s m e) h
+
+-- 1 times a value that the format holds is that value as data, NaN and infinities too
+pub one-times : (f : Format) (x : Float) → T (fits f x) → mul f one x ≡ x
+unfolding mul
+one-times f nan h = refl
+one-times f (inf false) h = refl
+one-times f (inf true) h = refl
+one-times f (fin false m e) h = rw (one-mul (m * up e), one-mul (down e)) (round-held f false m e h)
+one-times f (fin true m e) h = rw (one-mul (m * up e), one-mul (down e)) (round-held f true m e h)

@@ -1,7 +1,9 @@
 // What stands before the ticks of the input, the airframe and the state; and the ticks, a buffer at a time.
+ghost use mathlib.Core.Path.{_≡_};
 ghost use Prim.Native.Nat.{_*_, _≤_};
+ghost use lib.ListN.{take};
 ghost use Rattle.airframe_block.specs.Block.{headerBytes, mostBytes};
-ghost use Rattle.state_block.specs.Layout.{tickBytes};
+ghost use Rattle.state_block.specs.Layout.{readFullOf, tickBytes};
 use crate::input;
 use crate::input::Filled;
 use crate::input::Input;
@@ -70,11 +72,12 @@ fn open_airframe(fd: i32) -> AirframeOpened {
     }
 }
 
-// The state block in the first `end` bytes of s.
+// The state block in the first `end` bytes of s, which must be all that a state has.
 fn state_in(s: &[u8], end: usize) -> StateRead
     requires { do ⌜ end ≤ (← ⟦s.len()⟧) ⌝ }
+    ensures { λ r. ⌜ r ≡ readFullOf (take end (now (s .entry))) ⌝ }
 {
-    state_block::read_state(&s[..end])
+    state_block::read_full_state(&s[..end])
 }
 
 // The state, behind the airframe.

@@ -41,7 +41,8 @@ sameBody b c =
 unfoldable pub sameFlight : Flight → Flight → Bool
 sameFlight f g =
     both (sameBody (f .body) (g .body))
-    (both (allPass (sameSlot (f .motors) (g .motors)) 8) (allPass (sameSlot (f .servos) (g .servos)) 8))
+    (both (both (allPass (sameSlot (f .motors) (g .motors)) 8) (allPass (sameSlot (f .servos) (g .servos)) 8))
+    (allPass (sameSlot (f .«thrust_scale») (g .«thrust_scale»)) 8))
 
 -- the same answer, alpha and thrust, and beta negated
 unfoldable pub mirroredReport : Report → Report → Bool

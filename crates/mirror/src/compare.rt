@@ -69,9 +69,15 @@ fn same_flight(f: Flight, g: Flight) -> bool
     let running_too = g.motors;
     let positions = f.servos;
     let positions_too = g.servos;
+    let strengths = f.thrust_scale;
+    let strengths_too = g.thrust_scale;
     let motors = same_slots(running, running_too);
     let servos = same_slots(positions, positions_too);
-    ordered::both(same_body(f.body, g.body), ordered::both(motors, servos))
+    let scales = same_slots(strengths, strengths_too);
+    ordered::both(
+        same_body(f.body, g.body),
+        ordered::both(ordered::both(motors, servos), scales),
+    )
 }
 
 // The same answer, alpha and thrust; beta negated.

@@ -19,10 +19,11 @@ use Rattle.motors.specs.Reflection.{GroupRel, reflectGroup}
 use Rattle.motors.specs.declared.MotorGroup.{MotorGroup}
 use Rattle.motors.specs.declared.Motors.{Motors}
 
--- a group and its reflection, whose motors run alike
+-- a group and its reflection, whose motors run alike and are as strong
 pub record MotorsRel (m m' : Motors) : Type 0 where
   pub group : GroupRel (m .group) (m' .group)
   pub running : m' .running ≡ m .running
+  pub scale : m' .«thrust_scale» ≡ m .«thrust_scale»
 
 -- the reflection by flipping sign bits is one
 pub reflect-group : (g : MotorGroup) → GroupRel g (reflectGroup g)
@@ -36,11 +37,11 @@ lag-factor-is h r = ap (factorOf h) (r .time-constant)
 pub spin-mirror : {m m' : Motors} (commands : List Float) (factor : Float)
     → MotorsRel m m' → MotorsRel (spinOf m commands factor) (spinOf m' commands factor)
 unfolding spinOf spinAt
-spin-mirror commands factor h = record { group = h .group; running = rw (h .group .used, h .running) }
+spin-mirror commands factor h = record { group = h .group; running = rw (h .group .used, h .running); scale = h .scale }
 
 slot-thrust-is : {m m' : Motors} {u u' : Float} (f : ThrustFalloff) → MotorsRel m m' → Rel false u u' → (k : ℕ) → slotThrust m' f u' k ≡ slotThrust m f u k
 unfolding slotThrust thrustOf
-slot-thrust-is {m} f h r k = rw (h .group .layout, h .running, falloff-is f (m .group .layout .«max_thrust_n») (thrustFraction (at (m .running) k) (m .group .layout .«thrust_exponent»)) r)
+slot-thrust-is {m} f h r k = rw (h .group .layout, h .running, h .scale, falloff-is f (m .group .layout .«max_thrust_n») (thrustFraction (at (m .running) k) (m .group .layout .«thrust_exponent»)) r)
 
 slot-torque-mirror : {m m' : Motors} {u u' : Float} (f : ThrustFalloff) → MotorsRel m m' → Rel false u u' → (k : ℕ) → VecRel true (slotTorque m f u k) (slotTorque m' f u' k)
 unfolding slotTorque

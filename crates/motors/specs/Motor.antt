@@ -72,21 +72,25 @@ unfoldable pub spinAt : Motors → List Float → Float → ℕ → Float
 spinAt m commands factor k = spun (flagAt (m .group .used) k) (at (m .running) k) (at commands k) factor
 
 unfoldable pub spinOf : Motors → List Float → Float → Motors
-spinOf m commands factor = record { group = m .group; running = slots (spinAt m commands factor) }
+spinOf m commands factor = record {
+  group = m .group;
+  running = slots (spinAt m commands factor);
+  «thrust_scale» = m .«thrust_scale»;
+}
 
 -- ---- thrust and torque. The exponent is 2, so a share is a square
 unfoldable pub thrustFraction : Float → Float → Float
 thrustFraction running exponent = running ⊗ running
 
--- thrust_scale · max · share · falloff, thrust_scale being 1
-unfoldable pub thrustOf : MotorLayout → ThrustFalloff → Float → Float → Float
-thrustOf l falloff u running =
+-- thrust_scale · max · share · falloff, from the left; the falloff is of the share before it is scaled (02, 2)
+unfoldable pub thrustOf : MotorLayout → ThrustFalloff → Float → Float → Float → Float
+thrustOf l falloff u scale running =
     let share = thrustFraction running (l .«thrust_exponent») in
-    one ⊗ l .«max_thrust_n» ⊗ share ⊗ falloffShare falloff (l .«max_thrust_n») share u
+    scale ⊗ l .«max_thrust_n» ⊗ share ⊗ falloffShare falloff (l .«max_thrust_n») share u
 
 -- the thrust at a slot, used or not
 unfoldable pub slotThrust : Motors → ThrustFalloff → Float → ℕ → Float
-slotThrust m falloff u k = thrustOf (m .group .layout) falloff u (at (m .running) k)
+slotThrust m falloff u k = thrustOf (m .group .layout) falloff u (at (m .«thrust_scale») k) (at (m .running) k)
 
 unfoldable pub slotTorque : Motors → ThrustFalloff → Float → ℕ → Vec3
 slotTorque m falloff u k = scaleOf (vecAt (m .group .«torque_per_thrust_m») k) (slotThrust m falloff u k)

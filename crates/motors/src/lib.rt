@@ -30,10 +30,12 @@ pub struct MotorGroup {
     pub torque_per_thrust_m: [Vec3; 8],
 }
 
-// A group and its running values.
+// A group, its running values and its thrust scales.
 pub struct Motors {
     pub group: MotorGroup,
     pub running: [f32; 8],
+    // By slot, how strong a motor is: 1 as built, 0 gives no thrust (02, 2).
+    pub thrust_scale: [f32; 8],
 }
 
 // Sums over the 8 slots; thrust is along body +x.
@@ -134,19 +136,20 @@ impl Motors {
         self
     }
 
-    // Used or not, all 8 slots pull by their running values, less what `falloff` takes at the forward airspeed.
+    // Used or not, all 8 slots pull by their running values and scales, less what `falloff` takes at the forward airspeed.
     pub fn wrench_with(self, falloff: ThrustFalloff, airspeed_mps: f32) -> MotorWrench
         ensures { λ r. ⌜ r ≡ Motor.wrenchWith self falloff «airspeed_mps» ⌝ }
     {
         let group = self.group;
         let running = self.running;
+        let thrust_scale = self.thrust_scale;
         let torques = group.torque_per_thrust_m;
         let mut thrust_n = 0.0;
         let mut torque_nm = Vec3::zeros();
         let mut i = 0usize;
         while i < 8 {
             let layout = group.layout;
-            let one_n = layout.motor_thrust_n(running[i], falloff, airspeed_mps);
+            let one_n = layout.motor_thrust_n(thrust_scale[i], running[i], falloff, airspeed_mps);
             thrust_n = thrust_n + one_n;
             torque_nm = torque_nm.add(torques[i].scale(one_n));
             i += 1;
@@ -170,13 +173,19 @@ impl MotorLayout {
         )
     }
 
-    // thrust_k of module 2; its 1 is the thrust scale.
-    fn motor_thrust_n(self, running: f32, falloff: ThrustFalloff, airspeed_mps: f32) -> f32
-        ensures { λ r. ⌜ r ≡ Motor.thrustOf self falloff «airspeed_mps» running ⌝ }
+    // thrust_k of module 2, with the slot's thrust scale; the falloff goes by the share before it is scaled.
+    fn motor_thrust_n(
+        self,
+        scale: f32,
+        running: f32,
+        falloff: ThrustFalloff,
+        airspeed_mps: f32,
+    ) -> f32
+        ensures { λ r. ⌜ r ≡ Motor.thrustOf self falloff «airspeed_mps» scale running ⌝ }
     {
         let max_thrust_n = self.max_thrust_n;
         let share = thrust_fraction(running, self.thrust_exponent);
-        1.0 * max_thrust_n * share * falloff.falloff_share(max_thrust_n, share, airspeed_mps)
+        scale * max_thrust_n * share * falloff.falloff_share(max_thrust_n, share, airspeed_mps)
     }
 }
 

@@ -60,14 +60,15 @@ fn flags(w: &[u32; 192]) -> [bool; 8] {
 pub fn motors(w: &[u32; 192], inputs: usize, out: &mut [u32; 64]) -> usize
     ensures { λ n. ⌜ n ≤ 64 ⌝ }
 {
-    if inputs != 53 {
+    if inputs != 61 {
         return 0;
     }
     let falloff = modules::falloff(w[0], numbers::number(w, 1));
     let used = flags(w);
     let torque_per_thrust_m = vectors(w, 13);
     let running = numbers::eight(w, 37);
-    let commands = numbers::eight(w, 45);
+    let thrust_scale = numbers::eight(w, 45);
+    let commands = numbers::eight(w, 53);
     let layout = MotorLayout {
         moment_arm_m: 0.0,
         yaw_torque_per_thrust_m: 0.0,
@@ -80,7 +81,11 @@ pub fn motors(w: &[u32; 192], inputs: usize, out: &mut [u32; 64]) -> usize
         used,
         torque_per_thrust_m,
     };
-    let motors = Motors { group, running };
+    let motors = Motors {
+        group,
+        running,
+        thrust_scale,
+    };
     let spun = motors.spin(commands, numbers::number(w, 4));
     let pull = spun.wrench_with(falloff, numbers::number(w, 3));
     let after = spun.running;

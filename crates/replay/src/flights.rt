@@ -49,7 +49,7 @@ fn airframe_in(bytes: &[u8], end: usize) -> AirframeRead
 fn state_in(bytes: &[u8], from: usize, end: usize) -> StateRead
     requires { ⌜ from ≤ end ⌝ ∗ ⌜ end ≤ length (now bytes) ⌝ }
 {
-    state_block::read_state(&bytes[from..end])
+    state_block::read_full_state(&bytes[from..end])
 }
 
 // What fly prints for the first n bytes, of which the airframe is the first `to`.

@@ -10,7 +10,7 @@ use Rattle.flight.specs.declared.Tick.{Tick}
 use Rattle.wing.specs.Tick.{tickOf}
 use Rattle.wing.specs.declared.Ticked.{Ticked}
 use Rattle.run.specs.Calls.{Chain, Each, ValueCall, chain-more, chain-none, each-more, each-none}
-use Rattle.run.specs.Mirrored.{IsItsCalls}
+use Rattle.run.specs.Mirrored.{All, IsItsCalls, all-more, all-none}
 use Rattle.run.specs.Run.{Progress, acceptedIn, callsOf, progressed, runFrom, runOf, stateAfter}
 
 -- ---- what one call promises: what it finds is a state, what it is given a tick; it tells the definition's outcome and leaves its state
@@ -52,6 +52,12 @@ unfolding runOf
 is-its-calls a s ts =
     let p : Progress = record { flight = s; accepted = 0 } in
     record { end = from-end a p ts; count = from-count a p ts ∙ zero-add _ }
+
+-- ---- what holds of every call: what each tick tells from what the states before it keep
+pub all-calls : (Kept : Flight → Type 0) (P : Ticked → Type 0) (a : Airframe) → ((f : Flight) (t : Tick) → Kept f → Kept (tickOf a f t .flight) × P (tickOf a f t)) → (f : Flight) (ts : List Tick) → Kept f → All P (callsOf a f ts)
+unfolding callsOf
+all-calls Kept P a one f [] k = all-none
+all-calls Kept P a one f (t ∷ ts) k = let n = one f t k in all-more (n .1) (all-calls Kept P a one (tickOf a f t .flight) ts (n .0))
 
 -- ---- calls by value
 each-same : {X : Type 0} {xs ys : List X} → Each (λ (x y : X). x ≡ y) xs ys → xs ≡ ys

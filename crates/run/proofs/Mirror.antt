@@ -23,9 +23,9 @@ use Rattle.wing.specs.Reflection.{TickedRel}
 use Rattle.wing.proofs.Running.{Held, Running, Still}
 use Rattle.wing.specs.Tick.{tickOf}
 use Rattle.wing.specs.declared.Ticked.{Ticked}
-use Rattle.run.proofs.Calls.{is-its-calls}
+use Rattle.run.proofs.Calls.{all-calls, is-its-calls}
 use Rattle.run.specs.Calls.{Each, each-more, each-none}
-use Rattle.run.specs.Mirrored.{Agree, All, Angles, InRange, Mirrored, RanRel, Ranges, all-more, all-none}
+use Rattle.run.specs.Mirrored.{Agree, All, Angles, InRange, Mirrored, RanRel, Ranges}
 use Rattle.run.specs.Run.{Progress, callsOf, ended, isWhole, oneIfDone, progressed, ranOver, runFrom, runOf}
 
 -- ---- the ticks of a reflected list
@@ -81,31 +81,28 @@ ran-mirror a f s ts = go (isWhole s)
 
 -- ---- the ranges
 in-range : (a : Airframe) (start f : Flight) → Running f → Still a start f → InRange a start f
-in-range a start f r s = record { motors = Group.in-range (r .motors) (s .motors); surface = r .servo }
+in-range a start f r s = record { motors = Group.in-range (r .motors) (s .motors); surface = r .servo; scale = r .scale; unaltered = s .scale }
 
 still-more : {a : Airframe} {start f g : Flight} → Still a start f → Still a f g → Still a start g
-still-more s t = record { motors = still-after (s .motors) (t .motors) }
+still-more s t = record { motors = still-after (s .motors) (t .motors); scale = t .scale ∙ s .scale }
 
-ranges-from : (a : Airframe) (start f : Flight) (ts : List Tick) → Held f → Running f → Still a start f
-    → All (λ (k : Ticked). InRange a start (k .flight)) (callsOf a f ts)
-unfolding callsOf
-ranges-from a start f [] g r s = all-none
-ranges-from a start f (t ∷ ts) g r s =
-    let k = tick-keeps a f t g r in
-    let u = still-more s (k .still) in
-    all-more (in-range a start (tickOf a f t .flight) (k .running) u) (ranges-from a start (tickOf a f t .flight) ts (k .held) (k .running) u)
+-- what the states of a run from `start` keep
+abbrev Kept : Airframe → Flight → Flight → Type 0
+Kept a start f = Held f × Running f × Still a start f
+
+ranges-from : (a : Airframe) (start f : Flight) (ts : List Tick) → Kept a start f → All (λ (k : Ticked). InRange a start (k .flight)) (callsOf a f ts)
+ranges-from a start = all-calls (Kept a start) (λ (k : Ticked). InRange a start (k .flight)) a
+    (λ f t k. let n = tick-keeps a f t (k .0) (k .1) in let u = still-more (k .2) (n .still) in ((n .held, n .running, u), in-range a start (tickOf a f t .flight) (n .running) u))
 
 -- the angles, of any run
 angles-from : (a : Airframe) (f : Flight) (ts : List Tick) → All (λ (k : Ticked). Angles (k .report)) (callsOf a f ts)
-unfolding callsOf
-angles-from a f [] = all-none
-angles-from a f (t ∷ ts) = let x = tick-angles a f t in all-more (record { alpha = x .0; beta = x .1 }) (angles-from a (tickOf a f t .flight) ts)
+angles-from a f ts = all-calls (λ (g : Flight). Unit {0}) (λ (k : Ticked). Angles (k .report)) a (λ g t u. let x = tick-angles a g t in (tt, record { alpha = x .0; beta = x .1 })) f ts tt
 
 pub ranges : (a : Airframe) (s : Flight) (ts : List Tick) → outsideOf s ≡ 0 → Held s → Ranges a s ts
 ranges a s ts o g =
     let r = accepted-running s o in
-    let still : Still a s s = record { motors = still-same _ _ } in
-    record { at-start = in-range a s s r still; after-each = ranges-from a s s ts g r still; angles = angles-from a s ts }
+    let still : Still a s s = record { motors = still-same _ _; scale = refl } in
+    record { at-start = in-range a s s r still; after-each = ranges-from a s s ts (g, r, still); angles = angles-from a s ts }
 
 -- ---- demand 3. `Held s` is what the type of a state tells: its motors' running values are 32-bit floats
 pub mirrored : (a : Airframe) (s : Flight) (ts : List Tick) → outsideOf s ≡ 0 → Held s → Mirrored a s ts

@@ -20,7 +20,7 @@ use Rattle.flight.specs.Reflection.{FlightRel, reflectFlight, reflectTick}
 use Rattle.flight.specs.declared.Flight.{Flight}
 use Rattle.flight.specs.declared.Tick.{Tick}
 use Rattle.float.specs.Interval.{Within}
-use Rattle.float.specs.Notation.{minusOne, one}
+use Rattle.float.specs.Notation.{minusOne, nought, one}
 use Rattle.float.specs.Same.{Rel}
 use Rattle.mixers.specs.Slots.{at}
 use Rattle.motors.specs.Running.{MotorsInRange}
@@ -46,17 +46,20 @@ pub record Agree (k k' : Ticked) : Type 0 where
   pub state : FlightRel (k .flight) (k' .flight)
 
 -- the running values of a state, in a run that began at `start`: a used motor's in 0..1, an unused one's that of `start`, a
--- surface's in -1..1
+-- surface's in -1..1; and the thrust scales, in 0..1 and those of `start` (02, 2)
 pub record InRange (a : Airframe) (start f : Flight) : Type 0 where
   pub motors : MotorsInRange (a .motors .used) (start .motors) (f .motors)
   pub surface : (k : ℕ) → k < 8 → Within minusOne one (at (f .servos) k)
+  pub scale : (k : ℕ) → k < 8 → Within nought one (at (f .«thrust_scale») k)
+  pub unaltered : f .«thrust_scale» ≡ start .«thrust_scale»
 
 -- the angles of a report are numbers, neither a NaN nor infinite (02, 1)
 pub record Angles (r : Report) : Type 0 where
   pub alpha : T (finite (r .«alpha_rad»))
   pub beta : T (finite (r .«beta_rad»))
 
--- one run: before its first tick and after every tick the running values are in range, and every report's angles are numbers
+-- one run: before its first tick and after every tick the running values and scales are in range, and every report's angles are
+-- numbers
 pub record Ranges (a : Airframe) (s : Flight) (ts : List Tick) : Type 0 where
   pub at-start : InRange a s s
   pub after-each : All (λ (k : Ticked). InRange a s (k .flight)) (callsOf a s ts)

@@ -1,4 +1,4 @@
--- The state block and the tick block (01, "Blocks"): which number stands where in the bytes, and what reading and writing a state
+-- The state block and the tick block (01, "Blocks"; 02, 2): which number stands where in the bytes, and what reading and writing a state
 -- block gives. A block's bytes are a list of numbers below 256. Definitions only.
 use Prim.Native.Nat.{_*_, _+_, suc, zero, ℕ}
 use lib.Dec.{eqb}
@@ -13,7 +13,7 @@ use Rattle.flight.specs.Envelope.{outsideOf, zeroFlight}
 use Rattle.flight.specs.declared.Flight.{Flight}
 use Rattle.flight.specs.declared.Tick.{Tick}
 use Rattle.float.specs.Bytes.{put, word}
-use Rattle.float.specs.Notation.{nought}
+use Rattle.float.specs.Notation.{nought, one}
 use Rattle.mixers.specs.Slots.{at, slots}
 use Rattle.vector.specs.Rotation.{quat}
 use Rattle.vector.specs.Vector.{vec, zeroVec}
@@ -37,7 +37,7 @@ attitudeBytes = 4 * numberBytes
 abbrev pub slotsBytes : ℕ
 slotsBytes = 8 * numberBytes
 
--- where the parts of a state stand: the position first, the servos' running values last
+-- where the parts of a state stand: the position first, the thrust scales last
 abbrev pub velocityAt : ℕ
 velocityAt = vecBytes
 
@@ -53,8 +53,11 @@ motorsAt = ratesAt + vecBytes
 abbrev pub servosAt : ℕ
 servosAt = motorsAt + slotsBytes
 
+abbrev pub scalesAt : ℕ
+scalesAt = servosAt + slotsBytes
+
 abbrev pub stateBytes : ℕ
-stateBytes = servosAt + slotsBytes
+stateBytes = scalesAt + slotsBytes
 
 -- where the parts of a tick stand, its step being the first
 abbrev pub windAt : ℕ
@@ -88,9 +91,9 @@ slotFrom s i k = floatAt s (i + numberBytes * k)
 unfoldable pub floatsFrom : List ℕ → ℕ → List Float
 floatsFrom s i = slots (slotFrom s i)
 
--- the state whose block begins at i
-unfoldable pub flightFrom : List ℕ → ℕ → Flight
-flightFrom s i = record {
+-- the state whose block begins at i, with the thrust scales given
+unfoldable pub flightWith : List Float → List ℕ → ℕ → Flight
+flightWith scales s i = record {
   body = record {
     «position_ned_m» = vecFrom s i;
     «velocity_ned_mps» = vecFrom s (i + velocityAt);
@@ -99,7 +102,16 @@ flightFrom s i = record {
   };
   motors = floatsFrom s (i + motorsAt);
   servos = floatsFrom s (i + servosAt);
+  «thrust_scale» = scales;
 }
+
+-- and with its own
+unfoldable pub flightFrom : List ℕ → ℕ → Flight
+flightFrom s i = flightWith (floatsFrom s (i + scalesAt)) s i
+
+-- the scales of a block without any: all 1
+abbrev pub unscaled : List Float
+unscaled = replicate 8 one
 
 -- the tick whose block begins at i
 unfoldable pub tickFrom : List ℕ → ℕ → Tick
@@ -122,11 +134,16 @@ acceptedState f = record { answer = Done; flight = f }
 unfoldable pub testedState : Flight → StateRead
 testedState f = cond (eqb (outsideOf f) 0) (acceptedState f) (refusedState StateOutside)
 
--- by its length, a line for each that is accepted
+-- by its length, a line for each that is accepted: 148 bytes, and 116, which end where the scales begin (02, 2)
 unfoldable pub readStateOf : List ℕ → StateRead
 readStateOf s =
     cond (eqb (length s) stateBytes) (testedState (flightFrom s 0))
-    (refusedState WrongLength)
+    (cond (eqb (length s) scalesAt) (testedState (flightWith unscaled s 0))
+    (refusedState WrongLength))
+
+-- a block of all its bytes, and of no fewer (02, 2: what program fly takes)
+unfoldable pub readFullOf : List ℕ → StateRead
+readFullOf s = cond (eqb (length s) stateBytes) (readStateOf s) (refusedState WrongLength)
 
 -- ---- reading a tick block by itself: 80 bytes, else 1 and a tick of zeros; no number is tested
 
@@ -158,7 +175,7 @@ unfoldable pub putFloats : List ℕ → ℕ → List Float → ℕ → List ℕ
 putFloats s i xs zero = s
 putFloats s i xs (suc n) = putFloat (putFloats s i xs n) (i + numberBytes * n) (at xs n)
 
--- the body's numbers, then the running values
+-- the body's numbers, then the running values, then the scales
 unfoldable pub putBody : List ℕ → ℕ → Body → List ℕ
 putBody s i b =
     putVec
@@ -170,7 +187,12 @@ putBody s i b =
     (b .«angular_velocity_radps»)
 
 unfoldable pub putFlight : List ℕ → ℕ → Flight → List ℕ
-putFlight s i f = putFloats (putFloats (putBody s i (f .body)) (i + motorsAt) (f .motors) 8) (i + servosAt) (f .servos) 8
+putFlight s i f =
+    putFloats
+    (putFloats (putFloats (putBody s i (f .body)) (i + motorsAt) (f .motors) 8) (i + servosAt) (f .servos) 8)
+    (i + scalesAt)
+    (f .«thrust_scale»)
+    8
 
 unfoldable pub putTick : List ℕ → ℕ → Tick → List ℕ
 putTick s i t =

@@ -29,7 +29,10 @@ pub const MOTORS_AT: usize = RATES_AT + VEC_BYTES;
 
 pub const SERVOS_AT: usize = MOTORS_AT + SLOTS_BYTES;
 
-pub const STATE_BYTES: usize = SERVOS_AT + SLOTS_BYTES;
+// Where the thrust scales begin; a block from before there were any ends here (02, 2).
+pub const SCALES_AT: usize = SERVOS_AT + SLOTS_BYTES;
+
+pub const STATE_BYTES: usize = SCALES_AT + SLOTS_BYTES;
 
 // A tick block: the step at 0.
 pub const WIND_AT: usize = NUMBER_BYTES;
@@ -89,10 +92,10 @@ fn read_floats(s: &[u8], at: usize) -> [f32; 8]
     xs
 }
 
-// The state whose block stands at `at`.
-fn read_flight(s: &[u8], at: usize) -> Flight
-    requires { do ⌜ at + Layout.stateBytes ≤ (← ⟦s.len()⟧) ⌝ }
-    ensures { λ r. ⌜ r ≡ Layout.flightFrom (now (s .entry)) at ⌝ }
+// The state whose block stands at `at`, with the thrust scales given.
+fn read_flight(s: &[u8], at: usize, thrust_scale: [f32; 8]) -> Flight
+    requires { do ⌜ at + Layout.scalesAt ≤ (← ⟦s.len()⟧) ⌝ }
+    ensures { λ r. ⌜ r ≡ Layout.flightWith «thrust_scale» (now (s .entry)) at ⌝ }
 {
     let position_ned_m = read_vec(s, at);
     let velocity_ned_mps = read_vec(s, at + VELOCITY_AT);
@@ -110,6 +113,7 @@ fn read_flight(s: &[u8], at: usize) -> Flight
         body,
         motors,
         servos,
+        thrust_scale,
     }
 }
 
@@ -134,13 +138,28 @@ fn tested(flight: Flight) -> StateRead
     }
 }
 
-// The state block `s`, by its length: refused where no block has that many bytes, or where the state is outside the envelope.
+// The state block `s`, by its length: refused where no block has that many bytes, or where the state is outside the envelope. A
+// block of 116 bytes has no thrust scales, which then are 1.
 pub fn read_state(s: &[u8]) -> StateRead
     ensures { λ r. ⌜ r ≡ Layout.readStateOf (now (s .entry)) ⌝ }
 {
     let n = s.len();
     if n == STATE_BYTES {
-        return tested(read_flight(s, 0));
+        let scales = read_floats(s, SCALES_AT);
+        return tested(read_flight(s, 0, scales));
+    }
+    if n == SCALES_AT {
+        return tested(read_flight(s, 0, [1.0; 8]));
+    }
+    refused(Answer::WrongLength)
+}
+
+// The state block `s` of all 148 bytes, and of no fewer: what the programs read (02, 2).
+pub fn read_full_state(s: &[u8]) -> StateRead
+    ensures { λ r. ⌜ r ≡ Layout.readFullOf (now (s .entry)) ⌝ }
+{
+    if s.len() == STATE_BYTES {
+        return read_state(s);
     }
     refused(Answer::WrongLength)
 }
@@ -225,22 +244,30 @@ fn write_floats(s: &mut [u8], at: usize, xs: [f32; 8])
     }
 }
 
-fn write_flight(s: &mut [u8], at: usize, f: Flight)
-    requires { do ⌜ at + Layout.stateBytes ≤ (← ⟦s.len()⟧) ⌝ }
-    ensures { λ _. ⌜ now (s .exit) ≡ Layout.putFlight (now (s .entry)) at f ⌝ }
+fn write_body(s: &mut [u8], at: usize, b: Body)
+    requires { do ⌜ at + Layout.motorsAt ≤ (← ⟦s.len()⟧) ⌝ }
+    ensures { λ _. ⌜ now (s .exit) ≡ Layout.putBody (now (s .entry)) at b ⌝ }
 {
-    let b = f.body;
-    let motors = f.motors;
-    let servos = f.servos;
     write_vec(s, at, b.position_ned_m);
     write_vec(s, at + VELOCITY_AT, b.velocity_ned_mps);
     write_attitude(s, at + ATTITUDE_AT, b.attitude);
     write_vec(s, at + RATES_AT, b.angular_velocity_radps);
-    write_floats(s, at + MOTORS_AT, motors);
-    write_floats(s, at + SERVOS_AT, servos);
 }
 
-// The state's bytes into `s`, which must have as many as a state block, 116: else the bytes stay as found. The numbers are not tested.
+fn write_flight(s: &mut [u8], at: usize, f: Flight)
+    requires { do ⌜ at + Layout.stateBytes ≤ (← ⟦s.len()⟧) ⌝ }
+    ensures { λ _. ⌜ now (s .exit) ≡ Layout.putFlight (now (s .entry)) at f ⌝ }
+{
+    let motors = f.motors;
+    let servos = f.servos;
+    let thrust_scale = f.thrust_scale;
+    write_body(s, at, f.body);
+    write_floats(s, at + MOTORS_AT, motors);
+    write_floats(s, at + SERVOS_AT, servos);
+    write_floats(s, at + SCALES_AT, thrust_scale);
+}
+
+// The state's bytes into `s`, which must have as many as a state block, 148: else the bytes stay as found. The numbers are not tested.
 pub fn write_state(s: &mut [u8], f: Flight) -> Answer
     ensures { λ r. ⌜ now (s .exit) ≡ Layout.writtenState (now (s .entry)) f ⌝ }
     ensures { λ r. ⌜ r ≡ Layout.writeAnswer Layout.stateBytes (now (s .entry)) ⌝ }

@@ -5,3 +5,4 @@ pub mod Range
 pub mod Wind
 pub mod Mirror
 pub mod Steps
+pub mod Scales

@@ -6,7 +6,7 @@ use lib.Ieee.{Float}
 use lib.IntN.{pos}
 use mathlib.Core.Bool.{false, true}
 use mathlib.Core.List.{List}
-use mathlib.Core.Path.{_∙_, _≡_, ap, ap₂, refl, subst, sym}
+use mathlib.Core.Path.{_≡_, ap, ap₂, refl, subst, sym}
 use Rattle.aero.proofs.Mirror.{wrench-mirror}
 use Rattle.aero.specs.Reflection.{AeroRel}
 use Rattle.aero.specs.declared.Aero.{Aero}
@@ -42,7 +42,7 @@ use Rattle.vector.proofs.Mirror.{add-mirror, inverse-rotate-mirror, rotate-mirr
 use Rattle.vector.specs.Reflection.{QuatRel, VecRel}
 use Rattle.vector.specs.declared.Quaternion.{Quaternion}
 use Rattle.vector.specs.declared.Vec3.{Vec3}
-use Rattle.wing.specs.Loads.{aeroOf, airOf, withThrust, loadsOf, motorsFor, pullOf, surfacesFor, washFor}
+use Rattle.wing.specs.Loads.{aeroOf, airOf, withThrust, loadsOf, loadsUnder, motorsFor, pullOf, surfacesFor, washFor}
 use Rattle.wing.specs.Reflection.{LoadedRel, TickedRel}
 use Rattle.wing.specs.Tick.{airDensity, acceptedTick, unlessDeparted, massOf, movedOf, nextFrom, nextOf, refusedOf, spunOf, steppedOf, tickOf, windMost, windUsable}
 use Rattle.wing.specs.declared.Loaded.{Loaded}
@@ -50,7 +50,7 @@ use Rattle.wing.specs.declared.Ticked.{Ticked}
 
 motors-mirror : {a a' : Airframe} {f f' : Flight} → AirframeRel a a' → FlightRel f f' → MotorsRel (motorsFor a f) (motorsFor a' f')
 unfolding motorsFor
-motors-mirror h k = record { group = h .motors; running = k .motors }
+motors-mirror h k = record { group = h .motors; running = k .motors; scale = k .scale }
 
 surfaces-mirror : {a a' : Airframe} {f f' : Flight} → AirframeRel a a' → FlightRel f f' → SurfacesRel (surfacesFor a f) (surfacesFor a' f')
 unfolding surfacesFor
@@ -87,27 +87,26 @@ pull-mirror : {a a' : Airframe} {m m' : Motors} {u u' : Vec3} → AirframeRel a 
 unfolding pullOf
 pull-mirror {a} h k u = rw (h .model) (torque-mirror (a .model .«thrust_falloff») k (u .x))
 
-aero-mirror : {a a' : Airframe} {m m' : Motors} {s s' : Surfaces} {b b' : Body} {u u' : Vec3} (density : Float) → AirframeRel a a' → MotorsRel m m' → SurfacesRel s s' → BodyRel b b' → VecRel false u u'
-    → AeroRel (aeroOf a m s b u density) (aeroOf a' m' s' b' u' density)
+aero-mirror : {a a' : Airframe} {s s' : Surfaces} {b b' : Body} {u u' : Vec3} (thrust density : Float) → AirframeRel a a' → SurfacesRel s s' → BodyRel b b' → VecRel false u u'
+    → AeroRel (aeroOf a thrust s b u density) (aeroOf a' thrust s' b' u' density)
 unfolding aeroOf
-aero-mirror {a} {a'} {m} {m'} {s} {s'} {b} {b'} {u} {u'} density h k l g air =
-    let thrust = pullOf (a .model) m u .«thrust_n» in
-    let e : washFor a' (pullOf (a' .model) m' u' .«thrust_n») (u' .x) density ≡ washFor a thrust (u .x) density = ap (λ (z : Float). washFor a' z (u' .x) density) (pull-is h k air) ∙ wash-for-is thrust density h (air .x) in
-    rw (e, h .model) (wrench-mirror (a .model) (washFor a thrust (u .x) density) density air (g .rates) (deflection-mirror (a .model .«max_deflection_rad») l))
+aero-mirror {a} {a'} {s} {s'} {b} {b'} {u} thrust density h l g air =
+    rw (wash-for-is thrust density h (air .x), h .model) (wrench-mirror (a .model) (washFor a thrust (u .x) density) density air (g .rates) (deflection-mirror (a .model .«max_deflection_rad») l))
 
 pub loads-mirror : {a a' : Airframe} {m m' : Motors} {s s' : Surfaces} {b b' : Body} {wind wind' : Vec3} (density : Float) → AirframeRel a a' → MotorsRel m m' → SurfacesRel s s' → BodyRel b b'
     → VecRel false wind wind' → LoadedRel (loadsOf a m s b wind density) (loadsOf a' m' s' b' wind' density)
-unfolding loadsOf
-loads-mirror density h k l g w =
+unfolding loadsOf loadsUnder
+loads-mirror {a} {m} {b} {wind} density h k l g w =
     let air = air-mirror g w in
-    with-thrust-mirror (h .model) (g .attitude) (pull-is h k air) (pull-mirror h k air) (aero-mirror density h k l g air)
+    let thrust = pullOf (a .model) m (airOf b wind) .«thrust_n» in
+    with-thrust-mirror (h .model) (g .attitude) (pull-is h k air) (pull-mirror h k air) (rw (pull-is h k air) (aero-mirror thrust density h l g air))
 
 -- ---- the step
 stepped-mirror : {f f' : Flight} {l l' : Loaded} (m : FixedWingModel) (motors servos : List Float) (h : Float) → FlightRel f f' → LoadedRel l l' → TickedRel (steppedOf m f motors servos l h) (steppedOf m f' motors servos l' h)
 unfolding steppedOf
 stepped-mirror m motors servos h k l = record {
   report = record { answer = refl; alpha = l .alpha; beta = l .beta; thrust = l .thrust };
-  flight = record { body = step-mirror (massOf m) h (k .body) (l .loads); motors = refl; servos = refl };
+  flight = record { body = step-mirror (massOf m) h (k .body) (l .loads); motors = refl; servos = refl; scale = k .scale };
 }
 
 stepped-same : {f f' : Flight} {l l' : Loaded} (m m' : FixedWingModel) (motors motors' servos servos' : List Float) (h : Float) → m' ≡ m → motors' ≡ motors → servos' ≡ servos → FlightRel f f' → LoadedRel l l'
@@ -152,16 +151,16 @@ wind-usable-is : {w w' : Vec3} → VecRel false w w' → windUsable w' ≡ windU
 unfolding windUsable
 wind-usable-is h = vec-inside-is windMost h
 
-pub accepted-mirror : {a a' : Airframe} {f f' : Flight} {t t' : Tick} → AirframeRel a a' → FlightRel f f' → TickRel t t' → TickedRel (acceptedTick a f t) (acceptedTick a' f' t')
+pub accepted-mirror : {f f' : Flight} {t t' : Tick} {n n' : Ticked} → FlightRel f f' → TickRel t t' → TickedRel n n' → TickedRel (acceptedTick f t n) (acceptedTick f' t' n')
 unfolding acceptedTick
-accepted-mirror {a} {a'} {f} {f'} {t} {t'} h k w =
+accepted-mirror {f} {f'} {t} {t'} k w next =
     by-test TickedRel (isInside f) (isInside f') (inside-is k)
     (λ u. by-test TickedRel (inside stepLeast stepMost (t .«step_s»)) (inside stepLeast stepMost (t' .«step_s»)) (ap (inside stepLeast stepMost) (w .step))
-    (λ v. by-test TickedRel (windUsable (t .«wind_ned_mps»)) (windUsable (t' .«wind_ned_mps»)) (wind-usable-is (w .wind)) (λ x. unless-departed-mirror k (next-mirror h k w)) (λ x. refused-mirror WindUnusable k))
+    (λ v. by-test TickedRel (windUsable (t .«wind_ned_mps»)) (windUsable (t' .«wind_ned_mps»)) (wind-usable-is (w .wind)) (λ x. unless-departed-mirror k next) (λ x. refused-mirror WindUnusable k))
     (λ v. refused-mirror StepOutside k))
     (λ u. refused-mirror StateOutside k)
 
 pub tick-mirror : {a a' : Airframe} {f f' : Flight} {t t' : Tick} → AirframeRel a a' → FlightRel f f' → TickRel t t' → TickedRel (tickOf a f t) (tickOf a' f' t')
 unfolding tickOf
 tick-mirror {a} {a'} h k w =
-    rw (refused-place-is h) (by-test TickedRel (eqb (refusedPlace a) 0) (eqb (refusedPlace a) 0) refl (λ u. accepted-mirror h k w) (λ u. refused-mirror (NumberOutOfRange (refusedPlace a)) k))
+    rw (refused-place-is h) (by-test TickedRel (eqb (refusedPlace a) 0) (eqb (refusedPlace a) 0) refl (λ u. accepted-mirror k w (next-mirror h k w)) (λ u. refused-mirror (NumberOutOfRange (refusedPlace a)) k))

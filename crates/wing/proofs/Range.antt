@@ -1,15 +1,15 @@
 -- Where a tick leaves the running values, by the lag's rounding bound and not by test 9: of an accepted airframe and an accepted step, from motors in 0..1 and surfaces in -1..1, the next
--- state's lie there again, and an unused motor runs as before. So test 9 never fires on a running value. Assumes nothing.
+-- state's lie there again, an unused motor runs as before, and the thrust scales are those of before. So test 9 never fires on a running value or a scale. Assumes nothing.
 use Prim.Native.Nat.{_<_, ℕ}
 use lib.Ieee.{Float, nan}
 use mathlib.Core.Bool.{true}
-use mathlib.Core.List.{[]}
+use mathlib.Core.List.{List, []}
 use mathlib.Core.Path.{_≡_, refl, subst, sym}
 use native.Mathlib.Omega.{arith}
 use Rattle.airframe.proofs.Range.{motor-constant-in, servo-constant-in}
 use Rattle.airframe.specs.Acceptance.{refusedPlace}
 use Rattle.airframe.specs.declared.Airframe.{Airframe}
-use Rattle.flight.proofs.Range.{motor-within, servo-within}
+use Rattle.flight.proofs.Range.{motor-within, scale-within, servo-within}
 use Rattle.flight.specs.Envelope.{outsideOf, slotInside, slotsOutside}
 use Rattle.flight.specs.declared.Flight.{Flight}
 use Rattle.flight.specs.declared.Tick.{Tick}
@@ -43,6 +43,10 @@ next-servo : (a : Airframe) (f : Flight) (t : Tick) (k : ℕ) → k < 8
 unfolding nextOf nextFrom steppedOf movedOf moveTo
 next-servo a f t k l = slots-at nan (moveAt (surfacesFor a f) (t .servos) (factorOf (t .«step_s») (a .model .«servo_time_constant_s»))) [] k l
 
+pub next-scale : (a : Airframe) (f : Flight) (t : Tick) → nextOf a f t .flight .«thrust_scale» ≡ f .«thrust_scale»
+unfolding nextOf nextFrom steppedOf
+next-scale a f t = refl
+
 module _ (a : Airframe) (f : Flight) (t : Tick) where
   pub next-running : refusedPlace a ≡ 0 → inside stepLeast stepMost (t .«step_s») ≡ true → Held f → Running f → Running (nextOf a f t .flight)
   unfolding motorsFor surfacesFor lagFactor
@@ -50,20 +54,21 @@ module _ (a : Airframe) (f : Flight) (t : Tick) where
     motors = subst Group.Running (sym (next-motors a f t))
         (spin-running (motorsFor a f) (t .motors) _ (g .motors) (r .motors) (factor-in _ _ (inside-within s) (motor-constant-in a e)));
     servo = λ k l. subst (λ (x : Float). Within minusOne one x) (sym (next-servo a f t k l)) (move-in (surfacesFor a f) (t .servos) _ k (r .servo k l) (factor-in _ _ (inside-within s) (servo-constant-in a e)));
+    scale = subst (λ (xs : List Float). (k : ℕ) → k < 8 → Within nought one (at xs k)) (sym (next-scale a f t)) (r .scale);
   }
 
   pub next-still : Still a f (nextOf a f t .flight)
   unfolding motorsFor
-  next-still = record { motors = subst (Group.Still (a .motors .used) (f .motors)) (sym (next-motors a f t)) (spin-leaves (motorsFor a f) (t .motors) _) }
+  next-still = record { motors = subst (Group.Still (a .motors .used) (f .motors)) (sym (next-motors a f t)) (spin-leaves (motorsFor a f) (t .motors) _); scale = next-scale a f t }
 
   pub next-held : Held f → Held (nextOf a f t .flight)
   unfolding motorsFor
   next-held g = record { motors = subst Group.Held (sym (next-motors a f t)) (spin-held (motorsFor a f) (t .motors) _ (g .motors)) }
 
--- so the tests of the running values, the envelope's last, pass: 9 never fires on one
-pub running-inside : (f : Flight) → Running f → (slotsOutside nought one (f .motors) ≡ 0) × (slotsOutside minusOne one (f .servos) ≡ 0)
+-- so the tests of the running values and of the scales, the envelope's last, pass: 9 never fires on one
+pub running-inside : (f : Flight) → Running f → (slotsOutside nought one (f .motors) ≡ 0) × (slotsOutside minusOne one (f .servos) ≡ 0) × (slotsOutside nought one (f .«thrust_scale») ≡ 0)
 unfolding slotsOutside slotInside
-running-inside f r = (none-fails _ 0 8 (λ k l. within-inside (r .motors .motor k (omega (arith, l)))), none-fails _ 0 8 (λ k l. within-inside (r .servo k (omega (arith, l)))))
+running-inside f r = (none-fails _ 0 8 (λ k l. within-inside (r .motors .motor k (omega (arith, l)))), none-fails _ 0 8 (λ k l. within-inside (r .servo k (omega (arith, l)))), none-fails _ 0 8 (λ k l. within-inside (r .scale k (omega (arith, l)))))
 
 -- ---- a tick, refused or not
 pub record Keeps (a : Airframe) (f : Flight) (r : Ticked) : Type 0 where
@@ -74,9 +79,9 @@ pub record Keeps (a : Airframe) (f : Flight) (r : Ticked) : Type 0 where
 pub tick-keeps : (a : Airframe) (f : Flight) (t : Tick) → Held f → Running f → Keeps a f (tickOf a f t)
 unfolding refusedOf
 tick-keeps a f t g r =
-    of-tick (Keeps a f) a f t (λ x n. record { running = r; still = record { motors = still-same _ _ }; held = g })
+    of-tick (Keeps a f) a f t (λ x n. record { running = r; still = record { motors = still-same _ _; scale = refl }; held = g })
     (λ p. record { running = next-running a f t (p .airframe) (p .step) g r; still = next-still a f t; held = next-held a f t g })
 
 -- ---- an accepted state is in its ranges
 pub accepted-running : (f : Flight) → outsideOf f ≡ 0 → Running f
-accepted-running f e = record { motors = record { motor = λ k l. motor-within f e k l }; servo = λ k l. servo-within f e k l }
+accepted-running f e = record { motors = record { motor = λ k l. motor-within f e k l }; servo = λ k l. servo-within f e k l; scale = λ k l. scale-within f e k l }

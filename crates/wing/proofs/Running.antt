@@ -1,20 +1,23 @@
--- What the range law keeps of a state from tick to tick: its running values' ranges, that an unused motor's value stays, and that
--- the values are 32-bit floats. Assumes nothing.
+-- What the range law keeps of a state from tick to tick: the ranges of its running values and thrust scales, that an unused
+-- motor's value and all scales stay, and that the values are 32-bit floats. Assumes nothing.
 use Prim.Native.Nat.{_<_, ℕ}
+use mathlib.Core.Path.{_≡_}
 use Rattle.airframe.specs.declared.Airframe.{Airframe}
 use Rattle.flight.specs.declared.Flight.{Flight}
 use Rattle.float.specs.Interval.{Within}
-use Rattle.float.specs.Notation.{minusOne, one}
+use Rattle.float.specs.Notation.{minusOne, nought, one}
 use Rattle.mixers.specs.Slots.{at}
 use Rattle.motors.proofs.Range as Group
 
 pub record Running (f : Flight) : Type 0 where
   pub motors : Group.Running (f .motors)
   pub servo : (k : ℕ) → k < 8 → Within minusOne one (at (f .servos) k)
+  pub scale : (k : ℕ) → k < 8 → Within nought one (at (f .«thrust_scale») k)
 
--- the motors that the airframe's marks leave out run in g as in f
+-- the motors that the airframe's marks leave out run in g as in f, and all are as strong (02, 2)
 pub record Still (a : Airframe) (f g : Flight) : Type 0 where
   pub motors : Group.Still (a .motors .used) (f .motors) (g .motors)
+  pub scale : g .«thrust_scale» ≡ f .«thrust_scale»
 
 pub record Held (f : Flight) : Type 0 where
   pub motors : Group.Held (f .motors)

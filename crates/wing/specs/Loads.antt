@@ -22,9 +22,9 @@ use Rattle.vector.specs.declared.Quaternion.{Quaternion}
 use Rattle.vector.specs.declared.Vec3.{Vec3}
 use Rattle.wing.specs.declared.Loaded.{Loaded}
 
--- the airframe's motors and surfaces at the state's running values
+-- the airframe's motors and surfaces at the state's running values; the motors with its thrust scales (02, 2)
 unfoldable pub motorsFor : Airframe → Flight → Motors
-motorsFor a f = record { group = a .motors; running = f .motors }
+motorsFor a f = record { group = a .motors; running = f .motors; «thrust_scale» = f .«thrust_scale» }
 
 unfoldable pub surfacesFor : Airframe → Flight → Surfaces
 surfacesFor a f = record { weights = a .weights; running = f .servos }
@@ -55,13 +55,18 @@ withThrust m q pull aero = record {
 unfoldable pub pullOf : FixedWingModel → Motors → Vec3 → MotorWrench
 pullOf m motors air = wrenchWith motors (m .«thrust_falloff») (air .x)
 
-unfoldable pub aeroOf : Airframe → Motors → Surfaces → Body → Vec3 → Float → Aero
-aeroOf a motors surfaces b air density =
+unfoldable pub aeroOf : Airframe → Float → Surfaces → Body → Vec3 → Float → Aero
+aeroOf a thrust surfaces b air density =
     wrenchOf (a .model) air (b .«angular_velocity_radps»)
     (deflectionRad surfaces (a .model .«max_deflection_rad»))
-    (washFor a (pullOf (a .model) motors air .«thrust_n») (air .x) density)
+    (washFor a thrust (air .x) density)
     density
+
+-- under a pull of the motors
+unfoldable pub loadsUnder : Airframe → MotorWrench → Surfaces → Body → Vec3 → Float → Loaded
+loadsUnder a pull surfaces b air density =
+    withThrust (a .model) (b .attitude) pull (aeroOf a (pull .«thrust_n») surfaces b air density)
 
 unfoldable pub loadsOf : Airframe → Motors → Surfaces → Body → Vec3 → Float → Loaded
 loadsOf a motors surfaces b wind density =
-    withThrust (a .model) (b .attitude) (pullOf (a .model) motors (airOf b wind)) (aeroOf a motors surfaces b (airOf b wind) density)
+    loadsUnder a (pullOf (a .model) motors (airOf b wind)) surfaces b (airOf b wind) density

@@ -37,14 +37,19 @@ movedOf a f commands h = moveTo (surfacesFor a f) commands (factorOf h (a .model
 abbrev pub airDensity : Float
 airDensity = rounded 1225 1000
 
--- Body::step under the loads; the lagged values are the state's running values
+-- Body::step under the loads; the lagged values are the state's running values, and its thrust scales stay (02, 2)
 unfoldable pub massOf : FixedWingModel → MassProperties
 massOf m = record { «mass_kg» = m .«mass_kg»; «inertia_kgm2» = m .«inertia_kgm2» }
 
 unfoldable pub steppedOf : FixedWingModel → Flight → List Float → List Float → Loaded → Float → Ticked
 steppedOf m f motors servos l h = record {
   report = record { answer = Done; «alpha_rad» = l .«alpha_rad»; «beta_rad» = l .«beta_rad»; «thrust_n» = l .«thrust_n» };
-  flight = record { body = stepOf (f .body) (massOf m) (l .loads) h; motors = motors; servos = servos };
+  flight = record {
+    body = stepOf (f .body) (massOf m) (l .loads) h;
+    motors = motors;
+    servos = servos;
+    «thrust_scale» = f .«thrust_scale»;
+  };
 }
 
 unfoldable pub nextFrom : Airframe → Flight → Motors → Surfaces → Vec3 → Float → Ticked
@@ -73,15 +78,17 @@ windMost = rounded 200 1
 unfoldable pub windUsable : Vec3 → Bool
 windUsable wind = vecInside windMost wind
 
--- of an airframe that is accepted. 7: the state outside the envelope; 8: the step not in 1/1024..0.02; then 10
-unfoldable pub acceptedTick : Airframe → Flight → Tick → Ticked
-acceptedTick a f t =
+-- of an airframe that is accepted, n being the next state. 7: the state outside the envelope; 8: the step not in 1/1024..0.02;
+-- then 10
+unfoldable pub acceptedTick : Flight → Tick → Ticked → Ticked
+acceptedTick f t n =
     cond (isInside f)
     (cond (inside stepLeast stepMost (t .«step_s»))
-    (cond (windUsable (t .«wind_ned_mps»)) (unlessDeparted f (nextOf a f t)) (refusedOf WindUnusable f))
+    (cond (windUsable (t .«wind_ned_mps»)) (unlessDeparted f n) (refusedOf WindUnusable f))
     (refusedOf StepOutside f))
     (refusedOf StateOutside f)
 
 -- 6: a number of the airframe outside its limits
 unfoldable pub tickOf : Airframe → Flight → Tick → Ticked
-tickOf a f t = cond (eqb (refusedPlace a) 0) (acceptedTick a f t) (refusedOf (NumberOutOfRange (refusedPlace a)) f)
+tickOf a f t =
+    cond (eqb (refusedPlace a) 0) (acceptedTick f t (nextOf a f t)) (refusedOf (NumberOutOfRange (refusedPlace a)) f)

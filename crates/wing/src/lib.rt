@@ -164,13 +164,18 @@ fn next_with(a: Airframe, f: Flight, t: Tick, lags: LagFactors) -> Ticked
     stepped(a.model, f, running, positions, loaded, t.step_s)
 }
 
-// The airframe's motors at the state's running values.
+// The airframe's motors at the state's running values and thrust scales.
 fn motors_of(a: Airframe, f: Flight) -> Motors
     ensures { λ r. ⌜ r ≡ LoadsOf.motorsFor a f ⌝ }
 {
     let group = a.motors;
     let running = f.motors;
-    Motors { group, running }
+    let thrust_scale = f.thrust_scale;
+    Motors {
+        group,
+        running,
+        thrust_scale,
+    }
 }
 
 // The airframe's surfaces at the state's running values.
@@ -252,7 +257,7 @@ fn with_thrust(
     }
 }
 
-// The state after the body's step under the loads, and the report.
+// The state after the body's step under the loads, its thrust scales as they were, and the report.
 fn stepped(
     m: FixedWingModel,
     f: Flight,
@@ -270,10 +275,12 @@ fn stepped(
     };
     let before = f.body;
     let body = before.step(mass, loaded.loads, step_s);
+    let scales = f.thrust_scale;
     let flight = Flight {
         body,
         motors,
         servos,
+        thrust_scale: scales,
     };
     let answer = Answer::Done;
     let report = Report {

@@ -2,9 +2,9 @@
 //! those not written.
 
 use bench::raw;
-use oracle::blocks::{Airframe, STATE_BYTES, State, TICK_BYTES};
+use oracle::blocks::{Airframe, STATE_BYTES, STATE_NUMBERS, State, TICK_BYTES, TICK_NUMBERS, UNSCALED_BYTES};
 use oracle::blocks::{read_airframe, read_state, read_tick, write_state, write_tick};
-use oracle::rows::{StateRow, TickRow, airframe_row, state_of, state_row, tick_of, tick_row};
+use oracle::rows::{AIRFRAME_ROW, StateRow, TickRow, airframe_row, state_of, state_row, tick_of, tick_row};
 
 use super::figures::Figures;
 use super::input::Input;
@@ -17,7 +17,7 @@ fn airframe_differs(block: &[u8]) -> bool {
     let read = read_airframe(block);
     let reply = reply_to(&read);
     let expected = airframe_row(&read.unwrap_or(Airframe::zero()));
-    let mut row = [UNWRITTEN; 106];
+    let mut row = [UNWRITTEN; AIRFRAME_ROW];
     raw::read_airframe(block) != reply
         || raw::prepare(block, &mut row) != reply
         || !same_numbers(&row, &expected)
@@ -27,14 +27,14 @@ fn state_differs(block: &[u8]) -> bool {
     let read = read_state(block);
     let reply = reply_to(&read);
     let expected = state_row(&read.unwrap_or(State::zero()));
-    let mut row = [UNWRITTEN; 29];
+    let mut row = [UNWRITTEN; STATE_NUMBERS];
     raw::read_state(block, &mut row) != reply || !same_numbers(&row, &expected)
 }
 
 fn tick_differs(block: &[u8]) -> bool {
     let read = read_tick(block);
-    let expected = read.map_or([0.0; 20], |tick| tick_row(&tick));
-    let mut row = [UNWRITTEN; 20];
+    let expected = read.map_or([0.0; TICK_NUMBERS], |tick| tick_row(&tick));
+    let mut row = [UNWRITTEN; TICK_NUMBERS];
     raw::read_tick(block, &mut row) != reply_to(&read) || !same_numbers(&row, &expected)
 }
 
@@ -68,7 +68,7 @@ fn ticks_differ(bytes: &[u8], input: &Input, figures: &mut Figures) -> bool {
     let first = &input.trace[..TICK_BYTES.min(input.trace.len())];
     let blocks = [first, short(first), bytes];
     let lengths = [TICK_BYTES, first.len(), bytes.len()];
-    let row = input.ticks().next().unwrap_or([UNWRITTEN; 20]);
+    let row = input.ticks().next().unwrap_or([UNWRITTEN; TICK_NUMBERS]);
     figures.blocks += (blocks.len() + lengths.len()) as u64;
     blocks.iter().any(|block| tick_differs(block))
         || lengths.iter().any(|length| tick_write_differs(&row, *length))
@@ -79,13 +79,19 @@ fn short(block: &[u8]) -> &[u8] {
     &block[..block.len().saturating_sub(1)]
 }
 
-/// Whether a call differs on the input's own blocks, on all its bytes as one block, or on a block
-/// one byte short.
+/// The state block without its thrust scales.
+fn unscaled(state: &[u8]) -> &[u8] {
+    &state[..UNSCALED_BYTES.min(state.len())]
+}
+
+/// Whether a call differs on the input's own blocks, on all its bytes as one block, on a block one
+/// byte short, or on its state's block without thrust scales.
 pub fn differ(bytes: &[u8], figures: &mut Figures) -> bool {
     let input = Input::of(bytes);
     let airframes = [input.airframe, short(input.airframe), bytes];
-    let states = [input.state, short(input.state), bytes];
-    let lengths = [STATE_BYTES, input.state.len(), bytes.len()];
+    let older = unscaled(input.state);
+    let states = [input.state, short(input.state), older, short(older), bytes];
+    let lengths = [STATE_BYTES, UNSCALED_BYTES, input.state.len(), bytes.len()];
     figures.blocks += (airframes.len() + states.len() + lengths.len()) as u64;
     airframes.iter().any(|block| airframe_differs(block))
         || states.iter().any(|block| state_differs(block))

@@ -1,5 +1,6 @@
 //! What the library's comparison counts.
 
+use oracle::blocks::SLOTS;
 use oracle::limits;
 use oracle::rows::TickRow;
 use oracle::tick::Report;
@@ -24,6 +25,11 @@ pub struct Figures {
     /// How many of those in an unusable wind did, and of those in one over 100 m/s that is usable.
     pub in_unusable: [u64; 11],
     pub in_strong: [u64; 11],
+    /// How many of those from a state with a thrust scale that is not 1 did, all of them within their
+    /// limits; of those with one of 0, -0 or subnormal; and of those with one beyond its limits.
+    pub tired: [u64; 11],
+    pub at_edge: [u64; 11],
+    pub out_of_scale: [u64; 11],
     pub runs: u64,
     pub run_ticks: u64,
     pub pairs: u64,
@@ -37,7 +43,7 @@ impl Figures {
         self.flights + self.damaged + self.hand_made
     }
 
-    pub fn ticked(&mut self, report: &Report, tick: &TickRow) {
+    pub fn ticked(&mut self, report: &Report, scales: &[f32; SLOTS], tick: &TickRow) {
         let answer = usize::from(report.answer);
         let wind = [tick[1], tick[2], tick[3]];
         self.ticks += 1;
@@ -46,6 +52,17 @@ impl Figures {
             self.in_unusable[answer] += 1;
         } else if wind.iter().any(|x| x.abs() > STRONG_MPS) {
             self.in_strong[answer] += 1;
+        }
+        self.scaled(answer, scales);
+    }
+
+    fn scaled(&mut self, answer: usize, scales: &[f32; SLOTS]) {
+        if !scales.iter().all(|x| limits::within(*x, limits::SCALE)) {
+            self.out_of_scale[answer] += 1;
+        } else if scales.iter().any(|x| *x != 1.0) {
+            self.tired[answer] += 1;
+            let edge = scales.iter().any(|x| *x < f32::MIN_POSITIVE);
+            self.at_edge[answer] += u64::from(edge);
         }
     }
 
@@ -67,6 +84,13 @@ impl Figures {
             "library: in an unusable wind, by number {}; in a usable one over {STRONG_MPS} m/s, {}",
             by_number(&self.in_unusable, 0),
             by_number(&self.in_strong, 0)
+        );
+        println!(
+            "library: with a thrust scale that is not 1, by number {}; with one of 0, -0 or subnormal, {}; \
+             with one beyond its limits, {}",
+            by_number(&self.tired, 0),
+            by_number(&self.at_edge, 0),
+            by_number(&self.out_of_scale, 0)
         );
         println!(
             "library: {} runs and {} mirrored pairs of {} ticks, {} blocks, {} rows of another length",

@@ -1,5 +1,5 @@
 //! Airframes made by hand: rows of 106 numbers that no block gives, for the prepared tick. A case is
-//! 155 numbers: the airframe's, the state's and the tick's.
+//! 163 numbers: the airframe's, the state's and the tick's.
 
 use std::fs;
 use std::io;
@@ -7,11 +7,12 @@ use std::path::{Path, PathBuf};
 
 use bench::raw;
 use oracle::arguments::SPECIAL;
-use oracle::blocks::read_airframe;
+use oracle::blocks::{SLOTS, STATE_NUMBERS, TICK_NUMBERS, read_airframe};
 use oracle::inputs;
 use oracle::limits::{self, Range};
 use oracle::rng::Rng;
-use oracle::rows::{StateRow, airframe_of, airframe_row, state_of, state_row, tick_of};
+use oracle::rows::{AIRFRAME_ROW, SCALES_AT, StateRow};
+use oracle::rows::{airframe_of, airframe_row, state_of, state_row, tick_of};
 use oracle::tick::{Report, tick};
 use oracle::words::case;
 
@@ -19,9 +20,9 @@ use super::figures::Figures;
 use super::ticks::Side;
 use crate::shrink;
 
-const STATE_AT: usize = 106;
-const TICK_AT: usize = STATE_AT + 29;
-const NUMBERS: usize = TICK_AT + 20;
+const STATE_AT: usize = AIRFRAME_ROW;
+const TICK_AT: usize = STATE_AT + STATE_NUMBERS;
+const NUMBERS: usize = TICK_AT + TICK_NUMBERS;
 const TICKS: usize = 8;
 
 type Case = [f32; NUMBERS];
@@ -95,9 +96,12 @@ fn airframe(rng: &mut Rng, row: &mut [f32]) {
 }
 
 fn state(rng: &mut Rng, row: &mut [f32]) {
-    row.copy_from_slice(&state_row(&inputs::state(rng)));
+    row.copy_from_slice(&state_row(&inputs::tired_state(rng)));
     if rng.once_in(8) {
-        row[rng.below(29)] = f32::from_bits(rng.pick(&SPECIAL));
+        row[rng.below(STATE_NUMBERS)] = f32::from_bits(rng.pick(&SPECIAL));
+    }
+    if rng.once_in(8) {
+        row[SCALES_AT + rng.below(SLOTS)] = near(rng, limits::SCALE);
     }
 }
 
@@ -115,7 +119,8 @@ pub fn differing(seed: u64, figures: &mut Figures) -> Option<Vec<f32>> {
     for _ in 0..TICKS {
         next_tick(rng, &mut case[TICK_AT..]);
         let (report, next) = expected(&case);
-        figures.ticked(&report, &part(&case, TICK_AT));
+        let scales = part(&case, STATE_AT + SCALES_AT);
+        figures.ticked(&report, &scales, &part(&case, TICK_AT));
         if differs(&case, &report, &next) {
             return Some(case.to_vec());
         }
@@ -135,7 +140,10 @@ fn still_differs(numbers: &[f32]) -> bool {
 /// Writes the smallest case found: its numbers and the oracle's reply.
 pub fn write(numbers: Vec<f32>, folder: &Path) -> io::Result<PathBuf> {
     let numbers = shrink::numbers(numbers, still_differs);
-    let mut text = String::from("# a prepared tick: 106 + 29 + 20 numbers > the oracle's state\n");
+    let mut text = format!(
+        "# a prepared tick: {AIRFRAME_ROW} + {STATE_NUMBERS} + {TICK_NUMBERS} numbers > the oracle's \
+         state\n"
+    );
     if let Ok(shown) = numbers.as_slice().try_into() {
         let (report, next) = expected(shown);
         text += &format!("# the oracle reports {report:?}\n{}\n", case(shown, &next));

@@ -3,6 +3,7 @@
 use oracle::blocks::{
     Airframe, Header, Refusal, STATE_BYTES, State, TICK_BYTES, read_airframe, read_tick,
 };
+use oracle::hand::at_rest;
 use oracle::rows::{StateRow, TickRow, state_row, tick_row};
 
 pub struct Input<'a> {
@@ -31,13 +32,7 @@ impl<'a> Input<'a> {
 
     /// The state to start from, not tested; level and at rest where the block is cut short.
     pub fn start(&self) -> State {
-        match self.state.try_into() {
-            Ok(block) => State::from_numbers(block),
-            Err(_) => State {
-                attitude: [1.0, 0.0, 0.0, 0.0],
-                ..State::zero()
-            },
-        }
+        State::of_block(self.state).unwrap_or(at_rest())
     }
 
     pub fn start_row(&self) -> StateRow {

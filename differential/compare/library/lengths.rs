@@ -1,19 +1,22 @@
 //! Rows of another length: each call answers 1, writes nothing, and counts 0.
 
 use bench::raw;
+use oracle::blocks::{SLOTS, STATE_NUMBERS, TICK_BYTES, TICK_NUMBERS};
 use oracle::rng::Rng;
+use oracle::rows::{AIRFRAME_ROW, REPORT_ROW};
 
 use super::figures::Figures;
 use super::input::Input;
 use super::rows::same_bits;
 
-/// A row's right length or, where `wrong`, any other up to 130.
+/// A row's right length or, where `wrong`, any other up to 130; a state without its thrust scales is
+/// eight numbers short.
 fn length(rng: &mut Rng, right: usize, wrong: bool) -> usize {
     if !wrong {
         return right;
     }
     let any = rng.below(130);
-    let other = rng.pick(&[0, right - 1, right + 1, any]);
+    let other = rng.pick(&[0, right - 1, right + 1, right.saturating_sub(SLOTS), any]);
     if other == right { right + 1 } else { other }
 }
 
@@ -29,13 +32,15 @@ fn refused(rows: &mut [Vec<f32>], call: impl FnOnce(&mut [Vec<f32>]) -> u64) -> 
 }
 
 fn reads_refused(rng: &mut Rng, input: &Input) -> bool {
-    let airframe = length(rng, 106, true);
-    let state = length(rng, 29, true);
-    let tick = length(rng, 20, true);
+    let airframe = length(rng, AIRFRAME_ROW, true);
+    let state = length(rng, STATE_NUMBERS, true);
+    let tick = length(rng, TICK_NUMBERS, true);
     let mut rows = [row(rng, airframe), row(rng, state), row(rng, tick)];
     refused(&mut rows[..1], |r| raw::prepare(input.airframe, &mut r[0]))
         && refused(&mut rows[1..2], |r| raw::read_state(input.state, &mut r[0]))
-        && refused(&mut rows[2..], |r| raw::read_tick(&[0; 80], &mut r[0]))
+        && refused(&mut rows[2..], |r| {
+            raw::read_tick(&[0; TICK_BYTES], &mut r[0])
+        })
 }
 
 /// A row that is not of the length `right` is not written into a block that is right for it.
@@ -52,8 +57,8 @@ fn ticks_refused(rng: &mut Rng, input: &Input) -> bool {
         let count = length(rng, right, at == bad);
         row(rng, count)
     };
-    let (tick, airframe) = (wrong(0, 20), vec![1.0; 106]);
-    let mut rows = [wrong(1, 29), wrong(2, 3)];
+    let (tick, airframe) = (wrong(0, TICK_NUMBERS), vec![1.0; AIRFRAME_ROW]);
+    let mut rows = [wrong(1, STATE_NUMBERS), wrong(2, REPORT_ROW)];
     refused(&mut rows, |rows| {
         let [state, report] = rows else { return 0 };
         raw::tick(input.airframe, state, &tick, report)
@@ -64,17 +69,17 @@ fn ticks_refused(rng: &mut Rng, input: &Input) -> bool {
 }
 
 fn prepared_refused(rng: &mut Rng) -> bool {
-    let count = length(rng, 106, true);
+    let count = length(rng, AIRFRAME_ROW, true);
     let airframe = row(rng, count);
-    let mut rows = [row(rng, 29), row(rng, 3)];
+    let mut rows = [row(rng, STATE_NUMBERS), row(rng, REPORT_ROW)];
     refused(&mut rows, |rows| {
         let [state, report] = rows else { return 0 };
-        raw::tick_prepared(&airframe, state, &[0.0; 20], report)
+        raw::tick_prepared(&airframe, state, &[0.0; TICK_NUMBERS], report)
     })
 }
 
 fn run_refused(rng: &mut Rng, input: &Input) -> bool {
-    let count = length(rng, 29, true);
+    let count = length(rng, STATE_NUMBERS, true);
     let mut rows = [row(rng, count)];
     let mut accepted = u64::MAX;
     refused(&mut rows, |rows| {
@@ -84,8 +89,8 @@ fn run_refused(rng: &mut Rng, input: &Input) -> bool {
 
 fn pair_refused(rng: &mut Rng, input: &Input) -> bool {
     let bad = rng.below(3);
-    let first = length(rng, 29, bad != 1);
-    let second = length(rng, 29, bad != 0);
+    let first = length(rng, STATE_NUMBERS, bad != 1);
+    let second = length(rng, STATE_NUMBERS, bad != 0);
     let mut rows = [row(rng, first), row(rng, second)];
     let mut counts = [u64::MAX; 2];
     refused(&mut rows, |rows| {
@@ -100,8 +105,8 @@ pub fn differ(bytes: &[u8], seed: u64, figures: &mut Figures) -> bool {
     let rng = &mut Rng::new(seed);
     figures.other_lengths += 9;
     !(reads_refused(rng, &input)
-        && write_refused(rng, 29, raw::write_state)
-        && write_refused(rng, 20, raw::write_tick)
+        && write_refused(rng, STATE_NUMBERS, raw::write_state)
+        && write_refused(rng, TICK_NUMBERS, raw::write_tick)
         && ticks_refused(rng, &input)
         && prepared_refused(rng)
         && run_refused(rng, &input)

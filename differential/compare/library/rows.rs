@@ -1,6 +1,7 @@
 //! Rows compared: as numbers where they were computed, by their bits where they must be as found.
 
 use oracle::blocks::Refusal;
+use oracle::rows::SCALES_AT;
 use oracle::words::same;
 
 pub fn same_numbers(a: &[f32], b: &[f32]) -> bool {
@@ -12,13 +13,19 @@ pub fn same_bits(a: &[f32], b: &[f32]) -> bool {
     a.len() == b.len() && pairs.all(|(x, y)| x.to_bits() == y.to_bits())
 }
 
-/// A row as it must be: the numbers `computed`, or as `found` by its bits where refused.
+/// A state's row as it must be: the numbers `computed`, or as `found` by its bits where refused.
 pub fn kept_or(accepted: bool, row: &[f32], found: &[f32], computed: &[f32]) -> bool {
     if accepted {
         same_numbers(row, computed)
     } else {
         same_bits(row, found)
     }
+}
+
+/// Whether the thrust scales of a state's row are those of another, by their bits but for a NaN's.
+pub fn same_scales(row: &[f32], start: &[f32]) -> bool {
+    let mut pairs = row[SCALES_AT..].iter().zip(&start[SCALES_AT..]);
+    pairs.all(|(x, y)| x.to_bits() == y.to_bits() || (x.is_nan() && y.is_nan()))
 }
 
 /// The library's reply for an answer and its place.

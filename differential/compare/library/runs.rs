@@ -9,7 +9,7 @@ use oracle::tick::run;
 
 use super::figures::Figures;
 use super::input::Input;
-use super::rows::{kept_or, reply, reply_to};
+use super::rows::{kept_or, reply, reply_to, same_scales};
 use super::ticks::Flown;
 
 /// What a count holds before a call.
@@ -95,7 +95,7 @@ fn run_differs(input: &Input, ran: &Ran) -> bool {
     let found = input.start_row();
     let (mut state, mut accepted) = (found, UNWRITTEN);
     let reply = raw::run(input.airframe, &mut state, input.trace, &mut accepted);
-    !ran.is(reply, &state, &found, accepted)
+    !ran.is(reply, &state, &found, accepted) || !same_scales(&state, &found)
 }
 
 fn pair_differs(input: &Input, ran: &Ran) -> bool {
@@ -112,7 +112,14 @@ fn pair_differs(input: &Input, ran: &Ran) -> bool {
         &mut counts,
     );
     let second = expected_reflection(input);
-    !ran.is(reply, &state, &found, counts[0]) || !second.is(reply, &reflected, &other, counts[1])
+    // Both runs leave the scales, and the reflection starts with those of the state.
+    let scales = [
+        (&state, &found),
+        (&reflected, if reply == 0 { &found } else { &other }),
+    ];
+    !ran.is(reply, &state, &found, counts[0])
+        || !second.is(reply, &reflected, &other, counts[1])
+        || !scales.iter().all(|(row, start)| same_scales(*row, *start))
 }
 
 /// The input's state with two faults at once: a refused block, and a trace a byte short.

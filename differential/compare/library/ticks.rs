@@ -2,20 +2,20 @@
 //! the state it handed back itself, after a refusal too.
 
 use bench::raw;
-use oracle::blocks::{Airframe, Refusal, State};
-use oracle::rows::{StateRow, TickRow, state_row, tick_of};
+use oracle::blocks::{Airframe, Refusal, State, TICK_NUMBERS};
+use oracle::rows::{AIRFRAME_ROW, REPORT_ROW, StateRow, TickRow, state_row, tick_of};
 use oracle::tick::{Report, tick};
 
 use super::figures::Figures;
 use super::input::Input;
-use super::rows::{kept_or, reply, same_numbers};
+use super::rows::{kept_or, reply, same_numbers, same_scales};
 
 /// What a report's row holds before a call.
 const UNWRITTEN: f32 = 12345.0;
 
 /// A tick of 0.01 s in still air without commands.
 const CALM: TickRow = {
-    let mut row = [0.0; 20];
+    let mut row = [0.0; TICK_NUMBERS];
     row[0] = 0.01;
     row
 };
@@ -24,7 +24,7 @@ const CALM: TickRow = {
 pub struct Side {
     state: StateRow,
     found: StateRow,
-    report: [f32; 3],
+    report: [f32; REPORT_ROW],
     reply: u64,
 }
 
@@ -33,7 +33,7 @@ impl Side {
         Side {
             state,
             found: state,
-            report: [UNWRITTEN; 3],
+            report: [UNWRITTEN; REPORT_ROW],
             reply: 0,
         }
     }
@@ -41,7 +41,7 @@ impl Side {
     /// One call of the library with this side's state.
     pub fn call(&mut self, tick: impl Fn(&mut [f32], &mut [f32]) -> u64) {
         self.found = self.state;
-        self.report = [UNWRITTEN; 3];
+        self.report = [UNWRITTEN; REPORT_ROW];
         self.reply = tick(&mut self.state, &mut self.report);
     }
 
@@ -51,6 +51,7 @@ impl Side {
         self.reply == reply(report.answer, report.place)
             && same_numbers(&self.report, &told)
             && kept_or(report.answer == 0, &self.state, &self.found, next)
+            && same_scales(&self.state, &self.found)
     }
 }
 
@@ -85,7 +86,7 @@ fn expected_prepared(
 /// tick behind it, gets one more.
 pub fn fly(input: &Input, figures: &mut Figures) -> Option<Flown> {
     let read = input.read();
-    let mut prepared = [0.0; 106];
+    let mut prepared = [0.0; AIRFRAME_ROW];
     raw::prepare(input.airframe, &mut prepared);
     let (mut state, mut accepted) = (input.start(), 0);
     let mut by_block = Side::new(input.start_row());
@@ -96,7 +97,7 @@ pub fn fly(input: &Input, figures: &mut Figures) -> Option<Flown> {
         let other = expected_prepared(&read, &one, &state, &row);
         by_block.call(|state, report| raw::tick(input.airframe, state, &row, report));
         by_row.call(|state, report| raw::tick_prepared(&prepared, state, &row, report));
-        figures.ticked(&one.0, &row);
+        figures.ticked(&one.0, &state.thrust_scale, &row);
         let next = state_row(&one.1);
         if !by_block.gave(&one.0, &next) || !by_row.gave(&other.0, &next) {
             return None;

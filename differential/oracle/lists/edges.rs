@@ -1,7 +1,7 @@
 //! Inputs of fly at every limit: each number just inside and just outside its range, each
 //! header bit, each length around each boundary.
 
-use crate::blocks::State;
+use crate::blocks::{SLOTS, STATE_NUMBERS, State, TICK_NUMBERS};
 use crate::hand;
 use crate::inputs::{AirframeBlock, Row, push, state_bytes};
 use crate::limits::{self, Range};
@@ -19,16 +19,22 @@ pub fn all() -> Vec<Vec<u8>> {
         norms(),
         steps(),
         winds(),
+        refused_scales(),
+        scales(),
+        vec![lopsided()],
     ]
     .concat()
 }
 
-/// The fall of two ticks in a wind of NaN; the one in a wind that goes down with it, whole and cut
-/// at every boundary, and one byte past it.
+/// The fall of two ticks in a wind of NaN; the one in a wind that goes down with it, whole, with a
+/// state of 116 bytes, cut at every boundary, where a state of 116 bytes would end too, and one byte
+/// past it.
 fn hand_made() -> Vec<Vec<u8>> {
     let fall = hand::fall();
-    let boundaries = [0, 1, 2, 3, 165, 166, 167, 281, 282, 283, 361, 362, 363, 441];
-    let mut all = vec![hand::fall_in_nan(), fall.clone()];
+    let boundaries = [
+        0, 1, 2, 3, 165, 166, 167, 281, 282, 283, 313, 314, 315, 393, 394, 395, 473,
+    ];
+    let mut all = vec![hand::fall_in_nan(), fall.clone(), hand::older_fall()];
     all.extend(boundaries.map(|end| fall[..end].to_vec()));
     all.push([&fall[..], &[0]].concat());
     all
@@ -155,14 +161,15 @@ fn factors() -> Vec<Vec<u8>> {
 /// Each number of the state at its limits and just outside them, without a tick.
 fn states() -> Vec<Vec<u8>> {
     let mut all = Vec::new();
-    for at in 0..29 {
+    for at in 0..STATE_NUMBERS {
         let range = match at {
             0..3 => limits::POSITION,
             3..6 => limits::VELOCITY,
             6..10 => continue,
             10..13 => limits::RATE,
             13..21 => limits::MOTOR,
-            _ => limits::SERVO,
+            21..29 => limits::SERVO,
+            _ => limits::SCALE,
         };
         let [below, above] = outside(range);
         let tries = match at % 3 {
@@ -250,6 +257,60 @@ fn winds() -> Vec<Vec<u8>> {
     ]
 }
 
+/// A thrust scale just below and just above its range and a NaN, in each slot, and a tick.
+fn refused_scales() -> Vec<Vec<u8>> {
+    let [below, above] = outside(limits::SCALE);
+    let states = hand::scaled(&[below, above, f32::NAN]);
+    let flight = |state: &State| with_tick(&hand::plain(), state, 0.01);
+    states.iter().map(flight).collect()
+}
+
+/// Flights of motors in all slots, each with a torque of its own: in each slot every limit of a
+/// thrust scale once, beside the others in the other slots. Every other motor runs without a row.
+fn scales() -> Vec<Vec<u8>> {
+    let motor = |slot: u8| Row {
+        servo: false,
+        slot,
+        factors: [0.25, -0.5, 1.0].map(|factor| factor * f32::from(slot + 1)),
+    };
+    let mut flights = Vec::new();
+    for first in 0..SLOTS {
+        let mut block = hand::plain();
+        block.pitch_speed = first % 2 == 1;
+        block.numbers[36] = if block.pitch_speed { 20.0 } else { 0.01 };
+        block.rows = (0..SLOTS as u8)
+            .skip(first % 2)
+            .step_by(2)
+            .map(motor)
+            .collect();
+        let mut state = hand::at_rest();
+        state.velocity = [5.0, 0.0, 0.0];
+        state.motors = [0.5; SLOTS];
+        for slot in 0..SLOTS {
+            state.thrust_scale[slot] = hand::SCALES[(first + slot) % hand::SCALES.len()];
+        }
+        flights.push(powered(&block, &state, 2));
+    }
+    flights
+}
+
+fn lopsided() -> Vec<u8> {
+    let (block, state) = hand::lopsided();
+    powered(&block, &state, 8)
+}
+
+/// A flight of ticks of 1/64 s with all motors at half command.
+fn powered(block: &AirframeBlock, state: &State, ticks: usize) -> Vec<u8> {
+    let mut bytes = block.bytes();
+    bytes.extend(state_bytes(state));
+    for _ in 0..ticks {
+        let mut tick = still(1.0 / 64.0);
+        tick[4..12].fill(0.5);
+        push(&mut bytes, &tick);
+    }
+    bytes
+}
+
 /// A flight of ticks of one step in each of the winds.
 fn blown(block: &AirframeBlock, state: &State, step: f32) -> Vec<u8> {
     let components = [&hand::UNUSABLE[..], &hand::USABLE].concat();
@@ -263,8 +324,8 @@ fn blown(block: &AirframeBlock, state: &State, step: f32) -> Vec<u8> {
     bytes
 }
 
-fn still(step: f32) -> [f32; 20] {
-    let mut tick = [0.0; 20];
+fn still(step: f32) -> [f32; TICK_NUMBERS] {
+    let mut tick = [0.0; TICK_NUMBERS];
     tick[0] = step;
     tick
 }

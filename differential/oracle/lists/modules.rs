@@ -137,8 +137,8 @@ pub fn motors() -> String {
     let cases = (0..140).map(|_| motors_case(&mut rng)).collect();
     list(
         "motors: falloff kind (0 Linear, 1 PitchSpeed), falloff number, max thrust, air speed, \
-         factor, used 8 (0 or 1), torques 8 x 3, running 8, commands 8 > running 8, thrust, \
-         torque 3",
+         factor, used 8 (0 or 1), torques 8 x 3, running 8, thrust scales 8, commands 8 > \
+         running 8, thrust, torque 3",
         cases,
     )
 }
@@ -159,12 +159,18 @@ fn motors_case(rng: &mut Rng) -> String {
     } else {
         core::array::from_fn(|_| rng.between(0.0, 1.0))
     };
+    let scales: [f32; SLOTS] = if wild {
+        some(rng, 0.0, 1.0)
+    } else {
+        inputs::scales(rng)
+    };
     let commands: [f32; SLOTS] = some(rng, 0.0, 1.0);
     let airframe = powered(pitch_speed, number, max_thrust);
     let model = model(&airframe);
     let mut motors = Motors::new(&[], &layout(&airframe));
     motors.set_slots(used, vectors(&torques));
     motors.set_running(running);
+    motors.set_thrust_scale(scales);
     motors.spin(&commands, factor);
     let (thrust, torque) = motors.wrench_with(|share| model.falloff_share(share, speed));
     let mut words = vec![
@@ -177,6 +183,7 @@ fn motors_case(rng: &mut Rng) -> String {
     words.extend(used.map(|used| whole(usize::from(used))));
     words.extend(torques);
     words.extend(running);
+    words.extend(scales);
     words.extend(commands);
     let mut answers = motors.running().to_vec();
     answers.push(thrust);

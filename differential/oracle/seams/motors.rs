@@ -25,4 +25,8 @@ impl Motors {
     pub(crate) fn running(&self) -> [f32; SLOTS] {
         self.running
     }
+
+    pub(crate) fn thrust_scale(&self) -> [f32; SLOTS] {
+        self.thrust_scale
+    }
 }

@@ -22,9 +22,12 @@ slots-in-requires c κs = search needs
 slots-in-requires-2 : tie.Need-slots-in-requires-2
 slots-in-requires-2 c κs = search needs
 
+slots-in-requires-3 : tie.Need-slots-in-requires-3
+slots-in-requires-3 c κs = search needs
+
 returns : tie.Need-returns
 unfolding flightIn
-returns c = cc
+returns c = simp (c .slots-in3 .ensures, c .before .slots-in2 .ensures, c .before .before .slots-in .ensures, c .before .before .before .vec-in3 .ensures, c .before .before .before .before .quat-in .ensures, c .before .before .before .before .before .vec-in2 .ensures, c .before .before .before .before .before .before .vec-in .ensures)
 
 pub flight-in-spec : {M : Type 1} → statement M
 flight-in-spec =
@@ -36,4 +39,5 @@ flight-in-spec =
     vec-in-requires-3
     slots-in-requires
     slots-in-requires-2
+    slots-in-requires-3
     returns)

@@ -1,6 +1,6 @@
 -- `state_block::read_flight` meets its contract. Assumes nothing.
 use borrow.Author.Needs.{needs}
-use Rattle.state_block.specs.Layout.{flightFrom}
+use Rattle.state_block.specs.Layout.{flightWith}
 use Rattle.state_block.proofs.read_flight.Statement.{statement}
 use Rattle.state_block.proofs.read_flight.Tie as tie
 
@@ -38,7 +38,7 @@ read-floats-requires-2 : tie.Need-read-floats-requires-2
 read-floats-requires-2 c κs = search needs
 
 returns : tie.Need-returns
-unfolding flightFrom
+unfolding flightWith
 returns c = simp (c .read-floats2 .ensures, c .before .read-floats .ensures, c .before .before .read-vec3 .ensures, c .before .before .before .read-attitude .ensures, c .before .before .before .before .read-vec2 .ensures, c .before .before .before .before .before .read-vec .ensures)
 
 pub read-flight-spec : {M : Type 1} → statement M

@@ -1,29 +1,15 @@
 -- `state_block::write_flight` meets its contract. Assumes nothing.
+use Prim.Native.Nat.{_+_, ℕ}
+use lib.Ieee.{Float}
+use mathlib.Core.List.{List}
+use mathlib.Core.Path.{_∙_, ap}
 use borrow.Author.Needs.{needs}
-use Rattle.state_block.specs.Layout.{putBody, putFlight}
+use Rattle.state_block.specs.Layout.{motorsAt, putFlight, putFloats, scalesAt, servosAt}
 use Rattle.state_block.proofs.write_flight.Statement.{statement}
 use Rattle.state_block.proofs.write_flight.Tie as tie
 
-write-vec-requires : tie.Need-write-vec-requires
-write-vec-requires c κs = search needs
-
-add-write-vec : tie.Need-add-write-vec
-add-write-vec c = search needs
-
-write-vec-requires-2 : tie.Need-write-vec-requires-2
-write-vec-requires-2 c κs = search needs
-
-add-write-attitude : tie.Need-add-write-attitude
-add-write-attitude c = search needs
-
-write-attitude-requires : tie.Need-write-attitude-requires
-write-attitude-requires c κs = search needs
-
-add-write-vec-2 : tie.Need-add-write-vec-2
-add-write-vec-2 c = search needs
-
-write-vec-requires-3 : tie.Need-write-vec-requires-3
-write-vec-requires-3 c κs = search needs
+write-body-requires : tie.Need-write-body-requires
+write-body-requires c κs = search needs
 
 add-write-floats : tie.Need-add-write-floats
 add-write-floats c = search needs
@@ -37,27 +23,33 @@ add-write-floats-2 c = search needs
 write-floats-requires-2 : tie.Need-write-floats-requires-2
 write-floats-requires-2 c κs = search needs
 
+add-write-floats-3 : tie.Need-add-write-floats-3
+add-write-floats-3 c = search needs
+
+write-floats-requires-3 : tie.Need-write-floats-requires-3
+write-floats-requires-3 c κs = search needs
+
 same-length : tie.Need-same-length
 same-length c = search needs
 
 returns : tie.Need-returns
-unfolding putFlight putBody
-returns c = cc
+unfolding putFlight
+returns c =
+    let a = c .before .before .before .before .before .before .before .before .before .before .before .before .before .before .before .before .before .before .before .before .args in
+    let slots : ℕ → List Float → List ℕ → List ℕ = λ at xs s. putFloats s (a .at + at) xs 8 in
+    c .before .before .write-floats3 .ensures
+    ∙ ap (slots scalesAt (a .f .«thrust_scale»)) (c .before .before .before .before .before .before .write-floats2 .ensures ∙ ap (slots servosAt (a .f .servos)) (c .before .before .before .before .before .before .before .before .before .before .write-floats .ensures ∙ ap (slots motorsAt (a .f .motors)) (c .before .before .before .before .before .before .before .before .before .before .before .before .before .before .write-body .ensures)))
 
 pub write-flight-spec : {M : Type 1} → statement M
 write-flight-spec =
     tie.close
     (tie.spec
-    write-vec-requires
-    add-write-vec
-    write-vec-requires-2
-    add-write-attitude
-    write-attitude-requires
-    add-write-vec-2
-    write-vec-requires-3
+    write-body-requires
     add-write-floats
     write-floats-requires
     add-write-floats-2
     write-floats-requires-2
+    add-write-floats-3
+    write-floats-requires-3
     same-length
     returns)

@@ -1,6 +1,6 @@
 -- `wing::loads` meets its contract. Assumes nothing.
 use borrow.Author.Needs.{needs}
-use Rattle.wing.specs.Loads.{aeroOf, airOf, loadsOf, pullOf}
+use Rattle.wing.specs.Loads.{aeroOf, airOf, loadsOf, loadsUnder, pullOf}
 use Rattle.wing.proofs.loads.Statement.{statement}
 use Rattle.wing.proofs.loads.Tie as tie
 
@@ -26,7 +26,7 @@ with-thrust-requires : tie.Need-with-thrust-requires
 with-thrust-requires c κs = search needs
 
 returns : tie.Need-returns
-unfolding loadsOf aeroOf pullOf airOf
+unfolding loadsOf loadsUnder aeroOf pullOf airOf
 returns c = simp (c .with-thrust .ensures, c .before .wrench .ensures, c .before .before .deflection-rad .ensures, c .before .before .before .wash-of .ensures, c .before .before .before .before .wrench-with .ensures, c .before .before .before .before .before .inverse-transform-vector .ensures, c .before .before .before .before .before .before .air-relative-velocity-ned-mps .ensures)
 
 pub loads-spec : {M : Type 1} → statement M

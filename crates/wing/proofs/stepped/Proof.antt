@@ -9,7 +9,7 @@ step-requires c κs = search needs
 
 returns : tie.Need-returns
 unfolding steppedOf massOf
-returns c = simp (c .step .ensures)
+returns c = simp (c .before .step .ensures)
 
 pub stepped-spec : {M : Type 1} → statement M
 stepped-spec = tie.close (tie.spec step-requires returns)

@@ -26,6 +26,9 @@ slots-inside-requires c κs = search needs
 slots-inside-requires-2 : tie.Need-slots-inside-requires-2
 slots-inside-requires-2 c κs = search needs
 
+slots-inside-requires-3 : tie.Need-slots-inside-requires-3
+slots-inside-requires-3 c κs = search needs
+
 both-requires : tie.Need-both-requires
 both-requires c κs = search needs
 
@@ -41,9 +44,12 @@ both-requires-4 c κs = search needs
 both-requires-5 : tie.Need-both-requires-5
 both-requires-5 c κs = search needs
 
+both-requires-6 : tie.Need-both-requires-6
+both-requires-6 c κs = search needs
+
 returns : tie.Need-returns
 unfolding ofBits round neg
-returns c = cc (inside-all (c .before .before .before .before .before .before .before .before .before .before .before .before .before .before .before .args .self))
+returns c = simp (inside-all (c .before .before .before .before .before .before .before .before .before .before .before .before .before .before .before .before .before .before .args .self), c .both6 .ensures, c .before .both5 .ensures, c .before .before .both4 .ensures, c .before .before .before .both3 .ensures, c .before .before .before .before .both2 .ensures, c .before .before .before .before .before .both .ensures, c .before .before .before .before .before .before .slots-inside3 .ensures, c .before .before .before .before .before .before .before .slots-inside2 .ensures, c .before .before .before .before .before .before .before .before .slots-inside .ensures, c .before .before .before .before .before .before .before .before .before .is-inside3 .ensures, c .before .before .before .before .before .before .before .before .before .before .inside .ensures, c .before .before .before .before .before .before .before .before .before .before .before .norm-squared .ensures, c .before .before .before .before .before .before .before .before .before .before .before .before .is-inside2 .ensures, c .before .before .before .before .before .before .before .before .before .before .before .before .before .is-inside .ensures)
 
 pub is-inside-spec : {M : Type 1} → statement M
 is-inside-spec =
@@ -56,9 +62,11 @@ is-inside-spec =
     is-inside-requires-3
     slots-inside-requires
     slots-inside-requires-2
+    slots-inside-requires-3
     both-requires
     both-requires-2
     both-requires-3
     both-requires-4
     both-requires-5
+    both-requires-6
     returns)

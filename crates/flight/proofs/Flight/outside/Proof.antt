@@ -38,6 +38,12 @@ slots-outside-requires-2 c κs = search needs
 after-requires-5 : tie.Need-after-requires-5
 after-requires-5 c κs = search needs
 
+slots-outside-requires-3 : tie.Need-slots-outside-requires-3
+slots-outside-requires-3 c κs = search needs
+
+after-requires-6 : tie.Need-after-requires-6
+after-requires-6 c κs = search needs
+
 or-else-requires : tie.Need-or-else-requires
 or-else-requires c κs = search needs
 
@@ -53,9 +59,12 @@ or-else-requires-4 c κs = search needs
 or-else-requires-5 : tie.Need-or-else-requires-5
 or-else-requires-5 c κs = search needs
 
+or-else-requires-6 : tie.Need-or-else-requires-6
+or-else-requires-6 c κs = search needs
+
 returns : tie.Need-returns
 unfolding outsideOf ofBits round neg
-returns c = cc
+returns c = simp (c .or-else6 .ensures, c .before .or-else5 .ensures, c .before .before .or-else4 .ensures, c .before .before .before .or-else3 .ensures, c .before .before .before .before .or-else2 .ensures, c .before .before .before .before .before .or-else .ensures, c .before .before .before .before .before .before .after6 .ensures, c .before .before .before .before .before .before .before .slots-outside3 .ensures .0, c .before .before .before .before .before .before .before .before .after5 .ensures, c .before .before .before .before .before .before .before .before .before .slots-outside2 .ensures .0, c .before .before .before .before .before .before .before .before .before .before .after4 .ensures, c .before .before .before .before .before .before .before .before .before .before .before .slots-outside .ensures .0, c .before .before .before .before .before .before .before .before .before .before .before .before .after3 .ensures, c .before .before .before .before .before .before .before .before .before .before .before .before .before .vec-outside3 .ensures .0, c .before .before .before .before .before .before .before .before .before .before .before .before .before .before .after2 .ensures, c .before .before .before .before .before .before .before .before .before .before .before .before .before .before .before .attitude-outside .ensures .0, c .before .before .before .before .before .before .before .before .before .before .before .before .before .before .before .before .after .ensures, c .before .before .before .before .before .before .before .before .before .before .before .before .before .before .before .before .before .vec-outside2 .ensures .0, c .before .before .before .before .before .before .before .before .before .before .before .before .before .before .before .before .before .before .vec-outside .ensures .0)
 
 pub outside-spec : {M : Type 1} → statement M
 outside-spec =
@@ -72,9 +81,12 @@ outside-spec =
     after-requires-4
     slots-outside-requires-2
     after-requires-5
+    slots-outside-requires-3
+    after-requires-6
     or-else-requires
     or-else-requires-2
     or-else-requires-3
     or-else-requires-4
     or-else-requires-5
+    or-else-requires-6
     returns)

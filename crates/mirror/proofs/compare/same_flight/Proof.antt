@@ -10,6 +10,9 @@ same-slots-requires c κs = search needs
 same-slots-requires-2 : tie.Need-same-slots-requires-2
 same-slots-requires-2 c κs = search needs
 
+same-slots-requires-3 : tie.Need-same-slots-requires-3
+same-slots-requires-3 c κs = search needs
+
 same-body-requires : tie.Need-same-body-requires
 same-body-requires c κs = search needs
 
@@ -19,9 +22,12 @@ both-requires c κs = search needs
 both-requires-2 : tie.Need-both-requires-2
 both-requires-2 c κs = search needs
 
+both-requires-3 : tie.Need-both-requires-3
+both-requires-3 c κs = search needs
+
 returns : tie.Need-returns
 unfolding sameFlight
-returns c = cc
+returns c = simp (c .both3 .ensures, c .before .both2 .ensures, c .before .before .both .ensures, c .before .before .before .same-body .ensures, c .before .before .before .before .same-slots3 .ensures, c .before .before .before .before .before .same-slots2 .ensures, c .before .before .before .before .before .before .same-slots .ensures)
 
 pub same-flight-spec : {M : Type 1} → statement M
 same-flight-spec =
@@ -29,7 +35,9 @@ same-flight-spec =
     (tie.spec
     same-slots-requires
     same-slots-requires-2
+    same-slots-requires-3
     same-body-requires
     both-requires
     both-requires-2
+    both-requires-3
     returns)

@@ -13,12 +13,12 @@ use Rattle.motors.proofs.Motors.wrench_with.Statement.{statement}
 use Rattle.motors.proofs.Motors.wrench_with.Tie as tie
 
 abbrev Inv-loop : tie.InvT-loop
-Inv-loop falloff airspeed-mps group running torques thrust-n₀ torque-nm₀ i₀ thrust-n torque-nm i =
-    let m : Motors = record { group = group; running = running } in
+Inv-loop falloff airspeed-mps group running thrust-scale torques thrust-n₀ torque-nm₀ i₀ thrust-n torque-nm i =
+    let m : Motors = record { group = group; running = running; «thrust_scale» = thrust-scale } in
     (i ≤ 8) × (thrust-n ≡ sumTo (slotThrust m falloff airspeed-mps) i) × (torque-nm ≡ vecSumTo (slotTorque m falloff airspeed-mps) i)
 
 abbrev μ-loop : tie.MeasureT-loop
-μ-loop falloff airspeed-mps group running torques thrust-n₀ torque-nm₀ i₀ thrust-n torque-nm i = 8 - i
+μ-loop falloff airspeed-mps group running thrust-scale torques thrust-n₀ torque-nm₀ i₀ thrust-n torque-nm i = 8 - i
 
 zeros-requires : tie.Need-zeros-requires Inv-loop μ-loop
 zeros-requires c κs = search needs
@@ -32,6 +32,12 @@ mul-motor-thrust-n c = search needs
 
 array-read-motor-thrust-n : tie.Need-array-read-motor-thrust-n Inv-loop μ-loop
 array-read-motor-thrust-n c = search needs
+
+mul-motor-thrust-n-2 : tie.Need-mul-motor-thrust-n-2 Inv-loop μ-loop
+mul-motor-thrust-n-2 c = search needs
+
+array-read-motor-thrust-n-2 : tie.Need-array-read-motor-thrust-n-2 Inv-loop μ-loop
+array-read-motor-thrust-n-2 c = search needs
 
 motor-thrust-n-requires : tie.Need-motor-thrust-n-requires Inv-loop μ-loop
 motor-thrust-n-requires c κs = search needs
@@ -58,13 +64,13 @@ loop-again : tie.Need-loop-again Inv-loop μ-loop
 unfolding slotThrust slotTorque
 loop-again c =
     let s = c .before .before .before .before .before .before in
-    let a = s .before .before .before .before .before .args in
+    let a = s .before .before .before .before .before .before .args in
     let i = s .loop .i in
     let one-n = c .before .before .before .motor-thrust-n in (
       search needs,
       sum-more (slotThrust (a .self) (a .falloff) (a .airspeed-mps)) i (s .loop .thrust-n) (one-n .result) (s .loop .inv .1) (one-n .ensures),
       vec-sum-more (slotTorque (a .self) (a .falloff) (a .airspeed-mps)) i (s .loop .torque-nm) (c .before .scale .result) (c .add .result) (s .loop .inv .2)
-          (c .before .scale .ensures ∙ ap (scaleOf (vecAt (a .self .group .«torque_per_thrust_m») i)) (one-n .ensures)) (c .add .ensures),
+          (c .before .scale .ensures ∙ ap (scaleOf (vecAt (a .self .group .«torque_per_thrust_m») i)) {y = slotThrust (a .self) (a .falloff) (a .airspeed-mps) i} (one-n .ensures)) (c .add .ensures),
     )
 
 returns : tie.Need-returns Inv-loop μ-loop
@@ -84,6 +90,8 @@ wrench-with-spec =
     loop-holds
     mul-motor-thrust-n
     array-read-motor-thrust-n
+    mul-motor-thrust-n-2
+    array-read-motor-thrust-n-2
     motor-thrust-n-requires
     mul-scale
     array-copy-out-scale
