@@ -15,6 +15,7 @@ use crate::shrink;
 /// One function on both sides, and its arguments: fixed ones first, then random ones.
 struct Function {
     name: &'static str,
+    inputs: usize,
     oracle: fn(&[f32]) -> f32,
     bench: fn(&[f32]) -> f32,
     fixed: fn() -> Vec<Vec<f32>>,
@@ -28,6 +29,7 @@ fn each(all: Vec<f32>) -> Vec<Vec<f32>> {
 const FUNCTIONS: [Function; 6] = [
     Function {
         name: "sqrtf",
+        inputs: 1,
         oracle: |x| libm::sqrtf(x[0]),
         bench: |x| raw::sqrtf(x[0]),
         fixed: || each(arguments::for_sqrt()),
@@ -35,6 +37,7 @@ const FUNCTIONS: [Function; 6] = [
     },
     Function {
         name: "expf",
+        inputs: 1,
         oracle: |x| libm::expf(x[0]),
         bench: |x| raw::expf(x[0]),
         fixed: || each(arguments::for_exp()),
@@ -42,6 +45,7 @@ const FUNCTIONS: [Function; 6] = [
     },
     Function {
         name: "sinf",
+        inputs: 1,
         oracle: |x| libm::sinf(x[0]),
         bench: |x| raw::sinf(x[0]),
         fixed: || each(arguments::for_sin_cos()),
@@ -49,6 +53,7 @@ const FUNCTIONS: [Function; 6] = [
     },
     Function {
         name: "cosf",
+        inputs: 1,
         oracle: |x| libm::cosf(x[0]),
         bench: |x| raw::cosf(x[0]),
         fixed: || each(arguments::for_sin_cos()),
@@ -56,6 +61,7 @@ const FUNCTIONS: [Function; 6] = [
     },
     Function {
         name: "asinf",
+        inputs: 1,
         oracle: |x| libm::asinf(x[0]),
         bench: |x| raw::asinf(x[0]),
         fixed: || each(arguments::for_asin()),
@@ -63,6 +69,7 @@ const FUNCTIONS: [Function; 6] = [
     },
     Function {
         name: "atan2f",
+        inputs: 2,
         oracle: |x| libm::atan2f(x[0], x[1]),
         bench: |x| raw::atan2f(x[0], x[1]),
         fixed: || pairs(arguments::for_atan2()),
@@ -95,16 +102,39 @@ pub fn compare(n: u64, seed: u64, folder: &Path) -> Found {
 fn compare_one(function: &Function, n: u64, seed: u64, folder: &Path) -> Found {
     let mut rng = Rng::new(seed);
     let random = (0..n).map(|_| (function.random)(&mut rng));
-    let mut progress = Progress::new(function.name, n);
+    tried(function, (function.fixed)().into_iter().chain(random), n, folder)
+}
+
+/// The function of that name at every float there is; None where no function of one argument has
+/// that name.
+pub fn every(name: &str, folder: &Path) -> Option<Found> {
+    let function = FUNCTIONS
+        .iter()
+        .find(|function| function.name == name && function.inputs == 1)?;
+    let floats = (0..=u32::MAX).map(|bits| [f32::from_bits(bits)]);
+    Some(tried(function, floats, 1 << 32, folder))
+}
+
+/// The function at all of these arguments, about `of` of them.
+fn tried<X: AsRef<[f32]>>(
+    function: &Function,
+    all: impl Iterator<Item = X>,
+    of: u64,
+    folder: &Path,
+) -> Found {
+    let mut progress = Progress::new(function.name, of);
     let mut found = Found::default();
     let mut first = None;
-    for x in (function.fixed)().into_iter().chain(random) {
+    for x in all {
+        let x = x.as_ref();
         found.cases += 1;
-        if differs(function, &x) {
+        if differs(function, x) {
             found.differing += 1;
-            first.get_or_insert(x);
+            first.get_or_insert_with(|| x.to_vec());
         }
-        progress.at(found.cases, found.differing);
+        if found.cases % 4096 == 0 {
+            progress.at(found.cases, found.differing);
+        }
     }
     found
         .files

@@ -1,7 +1,8 @@
 //! Compares the oracle with the Rattle side: `compare N SEED FOLDER PROGRAM`, or the static library
-//! alone with `compare --library N SEED FOLDER`. One module for each thing compared; a difference
-//! is written, as small as it can be made, into FOLDER. PROGRAM is the Rattle fly; flights are left
-//! out where it is missing.
+//! alone with `compare --library N SEED FOLDER`, or one elementary function at every argument with
+//! `compare --every NAME FOLDER`. One module for each thing compared; a difference is written, as
+//! small as it can be made, into FOLDER. PROGRAM is the Rattle fly; flights are left out where it is
+//! missing.
 
 mod flights;
 mod functions;
@@ -35,6 +36,7 @@ fn main() -> ExitCode {
     let Some(found) = compare(&arguments) else {
         eprintln!("usage: compare N SEED FOLDER PROGRAM");
         eprintln!("       compare --library N SEED FOLDER");
+        eprintln!("       compare --every NAME FOLDER, a function of one argument");
         return ExitCode::FAILURE;
     };
     match found {
@@ -49,6 +51,9 @@ fn main() -> ExitCode {
 /// None where the arguments are not those of the usage.
 fn compare(arguments: &[String]) -> Option<io::Result<Found>> {
     let arguments: Vec<&str> = arguments.iter().map(String::as_str).collect();
+    if let ["--every", name, folder] = arguments.as_slice() {
+        return functions::every(name, Path::new(folder)).map(Ok);
+    }
     let (alone, n, seed, folder, last) = match arguments.as_slice() {
         ["--library", n, seed, folder] => (true, n, seed, folder, ""),
         [n, seed, folder, program] => (false, n, seed, folder, *program),

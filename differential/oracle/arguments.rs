@@ -76,13 +76,16 @@ pub fn for_sqrt() -> Vec<f32> {
     all
 }
 
-/// The limits -87 and 88, 0, and where k changes.
+/// The limits -87 and 88, 0, where k changes, and the middle of each k from -126 to 127, so that
+/// exp takes each of its 254 powers of two.
 pub fn for_exp() -> Vec<f32> {
     let mut all = special();
     all.extend(near_each(&[-87.0, 88.0, -60.0, 60.0, 0.0, 1.0, -1.0], 3));
-    for half in (-126..128).step_by(6) {
-        let point = (f64::from(half) - 0.5) * core::f64::consts::LN_2;
-        all.extend(near(point as f32, 1));
+    for k in -126..128 {
+        let change = (f64::from(k) - 0.5) * core::f64::consts::LN_2;
+        let middle = f64::from(k) * core::f64::consts::LN_2;
+        all.extend(near(change as f32, 1));
+        all.push((middle as f32).clamp(-87.0, 88.0));
     }
     all.extend(near_each(
         &[-86.99, -87.3, 87.99, 88.7, 89.0, 127.0, -104.0],

@@ -1,9 +1,11 @@
-// 01, module 6: force, moment and flow angles of the aeroplane in the air (`wrench`).
+// 01, module 6: force, moment and flow angles of the aeroplane in the air (`wrench`). `powers` is libm's table, for the stall blend.
 ghost use mathlib.Core.Path.{_≡_};
 ghost use Rattle.aero.specs.Coefficients as Coefficients;
 ghost use Rattle.aero.specs.Wrench as Wrench;
+ghost use Rattle.libm.specs.Powers.{powersOfTwo};
 use fixed_wing::AeroCoefficients;
 use fixed_wing::FixedWingModel;
+use libm::POWER_COUNT;
 use tailsitter_model::Wash;
 use vector::Vec3;
 
@@ -45,12 +47,14 @@ pub fn wrench(
     deflection_rad: Vec3,
     wash: Wash,
     density_kgpm3: f32,
+    powers: &[f32; POWER_COUNT],
 ) -> Aero
+    requires { ⌜ now powers ≡ powersOfTwo ⌝ }
     ensures { λ r. ⌜ r ≡ Wrench.wrenchOf model «air_mps» «rates_radps» «deflection_rad» wash «density_kgpm3» ⌝ }
 {
     let speed_mps = air_mps.norm();
     if speed_mps > 0.0 {
-        let flow = flow_of(model, air_mps, density_kgpm3);
+        let flow = flow_of(model, air_mps, density_kgpm3, powers);
         let beta_rad = sideslip(air_mps.y, speed_mps);
         return moving(
             model,
@@ -137,7 +141,13 @@ fn with_surfaces(
 }
 
 // Of (u, v, w), v plays no part here.
-fn flow_of(model: FixedWingModel, air_mps: Vec3, density_kgpm3: f32) -> Flow
+fn flow_of(
+    model: FixedWingModel,
+    air_mps: Vec3,
+    density_kgpm3: f32,
+    powers: &[f32; POWER_COUNT],
+) -> Flow
+    requires { ⌜ now powers ≡ powersOfTwo ⌝ }
     ensures { λ r. ⌜ r ≡ Wrench.flowOf model «air_mps» «density_kgpm3» ⌝ }
 {
     let c = model.aero;
@@ -145,7 +155,7 @@ fn flow_of(model: FixedWingModel, air_mps: Vec3, density_kgpm3: f32) -> Flow
     let speed_mps = symmetric_speed_mps(air_mps);
     Flow {
         alpha_rad,
-        blend: stall_blend(c, alpha_rad),
+        blend: stall_blend(c, alpha_rad, powers),
         sin_alpha: libm::sinf(alpha_rad),
         cos_alpha: libm::cosf(alpha_rad),
         symmetric_area_n: pressure_area_n(model, speed_mps, density_kgpm3),
@@ -333,18 +343,23 @@ pub fn pressure_area_n(model: FixedWingModel, speed_mps: f32, density_kgpm3: f32
 }
 
 // The stall blend: near 0 between the two stall angles, near 1 beyond them.
-pub fn stall_blend(c: AeroCoefficients, alpha_rad: f32) -> f32
+pub fn stall_blend(c: AeroCoefficients, alpha_rad: f32, powers: &[f32; POWER_COUNT]) -> f32
+    requires { ⌜ now powers ≡ powersOfTwo ⌝ }
     ensures { λ r. ⌜ r ≡ Coefficients.stallBlend c «alpha_rad» ⌝ }
 {
-    let past_positive = exponent(-c.stall_sharpness * (alpha_rad - c.alpha_stall_rad));
-    let past_negative = exponent(c.stall_sharpness * (alpha_rad + c.alpha_stall_rad));
+    let past_positive = exponent(-c.stall_sharpness * (alpha_rad - c.alpha_stall_rad), powers);
+    let past_negative = exponent(c.stall_sharpness * (alpha_rad + c.alpha_stall_rad), powers);
     (1.0 + past_positive + past_negative) / ((1.0 + past_positive) * (1.0 + past_negative))
 }
 
-fn exponent(x: f32) -> f32
+fn exponent(x: f32, powers: &[f32; POWER_COUNT]) -> f32
+    requires { ⌜ now powers ≡ powersOfTwo ⌝ }
     ensures { λ r. ⌜ r ≡ Coefficients.exponent x ⌝ }
 {
-    libm::expf(float::clamp(x, -MAX_BLEND_EXPONENT, MAX_BLEND_EXPONENT))
+    libm::expf_with(
+        float::clamp(x, -MAX_BLEND_EXPONENT, MAX_BLEND_EXPONENT),
+        powers,
+    )
 }
 
 // The attached wing's lift, a line over alpha.

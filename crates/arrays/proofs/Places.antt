@@ -9,7 +9,8 @@ use Rattle.airframe.specs.Acceptance.{firstRefused, lowestPlace, refusedPlace}
 use Rattle.airframe.specs.Numbers.{baseNumbers, coefficientNumbers, falloffNumber, numbersCount, numbersOf, washNumbers}
 use Rattle.airframe_block.specs.Block.{coefficientsOf, falloffOf, layoutOf, modelOf, place, washFrom}
 use Rattle.fixed_wing.specs.declared.ThrustFalloff.the-variants.{Linear, PitchSpeed}
-use Rattle.mixers.specs.Slots.{at, listFrom, listOf}
+use Rattle.float.specs.Lists.{listFrom, listOf}
+use Rattle.mixers.specs.Slots.{at}
 use Rattle.arrays.specs.Airframe.{airframeIn, isSet, kindAt, kindOf, motorsIn, placesIn, torquesAt, vecsIn, washAt, weightsAt}
 
 -- a falloff of either kind has its number

@@ -10,7 +10,8 @@ use mathlib.Core.Path.{_∙_, _≡_, ap, refl}
 use Rattle.airframe.specs.Numbers.{baseNumbers, coefficientNumbers, falloffNumber, numbersOf, washNumbers}
 use Rattle.airframe.specs.declared.Airframe.{Airframe}
 use Rattle.airframe_block.specs.Block.{coefficientsOf, falloffOf, layoutOf, modelOf, washFrom}
-use Rattle.mixers.specs.Slots.{flagAt, listFrom, listOf, slots, vecAt as slotVec}
+use Rattle.float.specs.Lists.{listFrom, listOf}
+use Rattle.mixers.specs.Slots.{flagAt, slots, vecAt as slotVec}
 use Rattle.fixed_wing.specs.declared.ThrustFalloff.{ThrustFalloff}
 use Rattle.fixed_wing.specs.declared.ThrustFalloff.the-variants.{Linear, PitchSpeed}
 use Rattle.flight.specs.declared.Flight.{Flight}

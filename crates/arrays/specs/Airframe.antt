@@ -9,7 +9,8 @@ use mathlib.Core.List.{List}
 use Rattle.airframe.specs.Numbers.{numbersCount, numbersOf, washCount, washFirst}
 use Rattle.airframe.specs.declared.Airframe.{Airframe}
 use Rattle.airframe_block.specs.Block.{layoutOf, modelOf, motorConstant, washFrom}
-use Rattle.mixers.specs.Slots.{at, flagAt, listOf, slots, vecAt as slotVec}
+use Rattle.float.specs.Lists.{listOf}
+use Rattle.mixers.specs.Slots.{at, flagAt, slots, vecAt as slotVec}
 use Rattle.fixed_wing.specs.declared.ThrustFalloff.{ThrustFalloff}
 use Rattle.fixed_wing.specs.declared.ThrustFalloff.the-variants.{Linear, PitchSpeed}
 use Rattle.float.specs.Notation.{nought, one}

@@ -353,7 +353,7 @@ pub fn refused_place(xs: &[f32]) -> u32
     ensures { λ r. ⌜ r ≡ refusedPlace (AirframeArray.airframeIn (now (xs .entry))) ⌝ }
 {
     let places = places_in(xs);
-    let falloff = airframe_block::falloff_of(kind_of(xs[KIND_AT]), places[36]);
+    let falloff = airframe_block::falloff_of(kind_of(xs[KIND_AT]), xs[36]);
     let wash_present = is_set(xs[WASH_AT]);
     let torques = vecs_in(xs, TORQUES_AT);
     let weights = vecs_in(xs, WEIGHTS_AT);

@@ -6,7 +6,7 @@ use borrow.Author.Tests.{eq-eqb}
 use mathlib.Core.Bool.{cond, true}
 use mathlib.Core.List.{List}
 use mathlib.Core.Path.{_≡_, ap}
-use Rattle.mixers.proofs.Filling.{length-listOf}
+use Rattle.float.proofs.Lists.{length-listOf}
 use Rattle.airframe.specs.declared.Airframe.{Airframe}
 use Rattle.airframe_block.specs.Block.{readAirframeOf}
 use Rattle.arrays.proofs.RoundTrip.{airframe-again}

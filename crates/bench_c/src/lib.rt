@@ -188,7 +188,10 @@ fn ticked_prepared(airframe: &[f32], f: Flight, t: Tick) -> Ticked
 {
     let place = arrays::refused_place(airframe);
     if place == 0 {
-        return wing::tick_accepted(arrays::airframe_in(airframe), f, t);
+        let a = arrays::airframe_in(airframe);
+        let powers = libm::powers_of_two();
+        let lags = wing::begin(a, t.step_s, &powers);
+        return wing::tick_accepted(a, f, t, lags, &powers);
     }
     wing::refused(Answer::NumberOutOfRange(place), f)
 }

@@ -1,48 +1,17 @@
--- Signed integers near 0, and floats below 2 ^ 24 as integers: the cut of such a float is below 2 ^ 24 too, so the machine and the format hold it. Assumes nothing.
-use Prim.Native.Nat.{_*_, _+_, _-_, _/_, _<_, _^_, _≤_, min, suc, zero, ℕ}
-use lib.Arith.{le→nltb, lt→nleb}
-use lib.Dec.{T, leb, leb→le, le→leb, ltb, ltb→lt, lt→ltb}
-use lib.Ieee.{Float, binary32, down, fin, fits, inFloat, inf, le, lt, minus, nan, toSigned, up}
-use lib.Ieee.Bits.{is-false, is-true}
-use lib.Ieee.Digits.{back}
+-- Floats below 2 ^ 24 in size as integers: the cut of such a float is below 2 ^ 24 too, so the machine and the format hold it. Assumes nothing.
+use Prim.Native.Nat.{_*_, _+_, _-_, _/_, _<_, _^_, min, suc, zero, ℕ}
+use lib.Dec.{T, le→leb, ltb, ltb→lt, lt→ltb}
+use lib.Ieee.{Float, binary32, down, fin, fits, inFloat, inf, le, lt, nan, toSigned, up}
 use lib.Ieee.Fits.{down-pos}
-use lib.IntN.{_+ℤ_, negsuc, negℤ, pos, ℤ}
-use lib.Signed.{leZ, mag}
-use mathlib.Core.Bool.{Bool, _||_, cond, false, true}
-use mathlib.Core.Path.{_∙_, _≡_, ap, refl, subst}
+use lib.IntN.{negℤ, pos}
+use lib.Signed.{mag}
+use mathlib.Core.Bool.{Bool, _||_, false, true}
+use mathlib.Core.Path.{_≡_, subst}
 use mir.Syntax.{w32}
 use mir.Val.{SFits}
 use native.Mathlib.Nat.{div-lt-iff-lt-mul}
 use native.Mathlib.Omega.{arith}
-use types.Part.{whole}
-use Rattle.float.proofs.Patterns.{minus-shift}
 
--- k + 127 for a k from -126 to 127
-pub record Shifted (k z : ℤ) : Type 0 where
-  pub n : ℕ
-  pub is : z ≡ pos n
-  pub lo : 1 ≤ n
-  pub hi : n ≤ 254
-  pub back : minus n 127 ≡ k
-
-pub shifted : (k : ℤ) → T (leZ (negsuc 125) k) → T (leZ k (pos 127)) → Shifted k (k +ℤ pos 127)
-shifted (pos a) h l =
-    let b : a ≤ 127 = leb→le a 127 l in
-    record { n = a + 127; is = refl; lo = omega arith; hi = omega arith; back = minus-shift (a + 127) 127 a 0 (omega arith) ∙ whole a }
-  where
-    whole : (a : ℕ) → minus a 0 ≡ pos a
-    whole a = ap (λ (t : Bool). cond t (pos (a - 0)) (negsuc (0 - suc a))) (is-true (leb 0 a) (le→leb 0 a (omega arith))) ∙ ap pos (omega arith)
-shifted (negsuc a) h l =
-    let b : a ≤ 125 = leb→le a 125 h in
-    record {
-      n = 127 - suc a;
-      is = ap (λ (t : Bool). cond t (negsuc (suc a - 128)) (pos (127 - suc a))) (is-false (ltb 127 (suc a)) (le→nltb 127 (suc a) (omega arith)));
-      lo = omega arith;
-      hi = omega arith;
-      back = ap (λ (t : Bool). cond t (pos (127 - suc a - 127)) (negsuc (127 - suc (127 - suc a)))) (is-false (leb 127 (127 - suc a)) (lt→nleb 127 (127 - suc a) (omega arith))) ∙ ap negsuc (omega arith);
-    }
-
--- ---- a float below 2 ^ 24 in size
 pub record Small (x : Float) : Type 0 where
   pub low : T (le (fin true 1 (pos 63)) x)
   pub high : T (lt x (fin false 1 (pos 63)))

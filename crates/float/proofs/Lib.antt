@@ -8,6 +8,7 @@ pub mod HalfUnit
 pub mod Interval
 pub mod Sizes
 pub mod Truncation
+pub mod Lists
 pub mod Tests
 pub mod Mirror
 pub mod Patterns

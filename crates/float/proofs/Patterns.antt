@@ -1,15 +1,12 @@
 -- The bit patterns of binary32: which are a NaN's, and what the others stand for. Assumes nothing.
-use Prim.Native.Nat.{_%_, _*_, _+_, _-_, _/_, _<_, _≤_, suc, zero, ℕ}
+use Prim.Native.Nat.{_%_, _*_, _+_, _/_, _<_, _≤_, suc, ℕ}
 use lib.Arith.{le→nltb, lt→nleb}
-use lib.Count.{trailingZeros}
-use lib.Dec.{T, eqb, eqb→eq, leb, leb→le, le→leb, lt→ltb, nleb→lt, not-T}
-use lib.Ieee.{Float, binary32, binary64, div, fin, inf, isNan, minus, nan, nanBits, ne, odd, ofBits, ofFields}
-use lib.Ieee.Bits.{cond-no, is-false, is-true, nanBits-above, nanBits-is}
-use lib.IntN.{negsuc, pos, ℤ}
-use mathlib.Core.Bool.{Bool, cond, false, not, true}
+use lib.Dec.{T, eqb, eqb→eq, leb, lt→ltb, not-T}
+use lib.Ieee.{Float, binary32, binary64, div, fin, inf, isNan, nan, nanBits, ne, odd, ofBits, ofFields}
+use lib.Ieee.Bits.{cond-no, is-false, nanBits-above, nanBits-is}
+use mathlib.Core.Bool.{Bool, cond, false, not}
 use mathlib.Core.Path.{_∙_, _≡_, ap, refl, subst, sym}
 use native.Mathlib.Omega.{arith}
-use Rattle.float.specs.Same.{flip}
 
 pub ofBits-is : (b : ℕ) → ofBits binary32 b ≡ ofFields binary32 (leb 2147483648 b) (b % 2147483648 / 8388608) (b % 8388608)
 unfolding ofBits
@@ -62,37 +59,3 @@ normal x t b h k e =
     ∙ ap (λ (y : ℕ). ofFields binary32 false y (b % 8388608)) f
     ∙ ap (λ (y : ℕ). ofFields binary32 false (suc x) y) d
     ∙ under-ones t x h
-
--- ---- the powers of two
-
-one-digit : (x : ℕ) → odd 24 false 8388608 x 149 ≡ fin false 1 (minus (x + 23) 149)
-unfolding odd trailingZeros
-one-digit x = refl
-
--- a - b as an integer is the same where both grow
-pub minus-shift : (a b c d : ℕ) → a + d ≡ c + b → minus a b ≡ minus c d
-minus-shift a b c d e = go (leb b a) (leb→le b a) (nleb→lt b a)
-  where
-    same : a - b ≡ c - d
-    same = omega arith
-
-    flip : b - suc a ≡ d - suc c
-    flip = omega arith
-
-    go : (t : Bool) → (T t → b ≤ a) → (T (not t) → a < b) → cond t (pos (a - b)) (negsuc (b - suc a)) ≡ minus c d
-    go true h k =
-        let l : b ≤ a = h tt in
-        let m : d ≤ c = omega arith in
-        ap pos same ∙ sym (ap (λ (t : Bool). cond t (pos (c - d)) (negsuc (d - suc c))) (is-true (leb d c) (le→leb d c m)))
-    go false h k =
-        let l : a < b = k tt in
-        let m : c < d = omega arith in
-        ap negsuc flip ∙ sym (ap (λ (t : Bool). cond t (pos (c - d)) (negsuc (d - suc c))) (is-false (leb d c) (lt→nleb d c m)))
-
-pub power-is : (k : ℕ) → 1 ≤ k → k ≤ 254 → ofBits binary32 (k * 8388608) ≡ fin false 1 (minus k 127)
-power-is zero h l = absurd (none h)
-  where
-    none : 1 ≤ 0 → ⊥
-    none h = omega arith
-power-is (suc x) h l =
-    normal x 0 (suc x * 8388608) (omega arith) (omega arith) (omega arith) ∙ one-digit x ∙ ap (λ (e : ℤ). fin false 1 e) (minus-shift (x + 23) 149 (suc x) 127 (omega arith))

@@ -2,6 +2,7 @@
 -- code's promises name besides.
 pub mod Notation
 pub mod Bytes
+pub mod Lists
 pub mod Interval
 pub mod Same
 pub mod Contracts

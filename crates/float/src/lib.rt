@@ -1,9 +1,8 @@
-// 32-bit floats by their bits and bytes, truncation, and powers of two. No flight in it.
+// 32-bit floats by their bits and bytes, truncation, sizes and limits. No flight in it.
 ghost use mathlib.Core.Path.{_≡_};
 ghost use Prim.Native.Nat.{_+_, _*_, _<_, _≤_, _%_};
 ghost use mathlib.Core.Bool.{true, false};
-ghost use lib.IntN.{pos, negsuc};
-ghost use lib.Signed.{leZ};
+ghost use lib.IntN.{pos};
 ghost use lib.Dec.{T};
 ghost use lib.Ieee as Ieee;
 ghost use lib.Ieee.{fin, binary32};
@@ -84,22 +83,6 @@ pub fn whole_part(x: f32) -> f32
         }
     }
     0.0
-}
-
-// 2^(k - 127), for a biased exponent k from 1 to 254.
-fn biased_power(k: u32) -> f32
-    requires { ⌜ 1 ≤ k ⌝ ∗ ⌜ k ≤ 254 ⌝ }
-    ensures { λ r. ⌜ r ≡ fin false 1 (Ieee.minus k 127) ⌝ }
-{
-    f32::from_bits(k * 0x80_0000)
-}
-
-// 2^k, for a k from -126 to 127.
-pub fn power_of_two(k: i64) -> f32
-    requires { ⌜ T (leZ (negsuc 125) k) ⌝ ∗ ⌜ T (leZ k (pos 127)) ⌝ }
-    ensures { λ r. ⌜ r ≡ fin false 1 k ⌝ }
-{
-    biased_power((k + 127) as u32)
 }
 
 // The size of x, |x|.

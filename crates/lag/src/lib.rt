@@ -1,12 +1,15 @@
 // 01, module 1: how running values follow their commands.
 ghost use mathlib.Core.Path.{_≡_};
 ghost use Rattle.lag.specs.Lag as Lag;
+ghost use Rattle.libm.specs.Powers.{powersOfTwo};
+use libm::POWER_COUNT;
 
-// How much of the way to its target a value goes in `h` seconds.
-pub fn factor(h: f32, time_constant_s: f32) -> f32
+// How much of the way to its target a value goes in `h` seconds. `powers` is libm's table.
+pub fn factor(h: f32, time_constant_s: f32, powers: &[f32; POWER_COUNT]) -> f32
+    requires { ⌜ now powers ≡ powersOfTwo ⌝ }
     ensures { λ r. ⌜ r ≡ Lag.factorOf h «time_constant_s» ⌝ }
 {
-    1.0 - libm::expf(-h / time_constant_s)
+    1.0 - libm::expf_with(-h / time_constant_s, powers)
 }
 
 // From `value` the part `alpha` of the way to `target`.

@@ -1,8 +1,10 @@
 // 01, module 2: motors that follow their commands, their thrust and their torque.
 ghost use mathlib.Core.Path.{_≡_};
+ghost use Rattle.libm.specs.Powers.{powersOfTwo};
 ghost use Rattle.motors.specs.Motor as Motor;
 ghost use Rattle.motors.specs.Reflection as Reflection;
 use fixed_wing::ThrustFalloff;
+use libm::POWER_COUNT;
 use mixers::MixRow;
 use mixers::Rows;
 use mixers::Slot;
@@ -101,11 +103,12 @@ impl MotorGroup {
         self
     }
 
-    // f of module 2.
-    pub fn lag_factor(self, step_s: f32) -> f32
+    // f of module 2. `powers` is libm's table.
+    pub fn lag_factor(self, step_s: f32, powers: &[f32; POWER_COUNT]) -> f32
+        requires { ⌜ now powers ≡ powersOfTwo ⌝ }
         ensures { λ r. ⌜ r ≡ Motor.lagFactor self «step_s» ⌝ }
     {
-        lag::factor(step_s, self.time_constant_s)
+        lag::factor(step_s, self.time_constant_s, powers)
     }
 
     // The reflection of left and right: roll and yaw of the torques negated.

@@ -18,11 +18,9 @@ pub fn lag_factor(w: &[u32; 192], inputs: usize, out: &mut [u32; 64]) -> usize
     if inputs != 2 {
         return 0;
     }
-    numbers::put(
-        out,
-        0,
-        lag::factor(numbers::number(w, 0), numbers::number(w, 1)),
-    );
+    let powers = libm::powers_of_two();
+    let factor = lag::factor(numbers::number(w, 0), numbers::number(w, 1), &powers);
+    numbers::put(out, 0, factor);
     1
 }
 
@@ -79,7 +77,8 @@ pub fn stall_blend(w: &[u32; 192], inputs: usize, out: &mut [u32; 64]) -> usize
     let mut c = model.aero;
     c.alpha_stall_rad = numbers::number(w, 0);
     c.stall_sharpness = numbers::number(w, 1);
-    numbers::put(out, 0, aero::stall_blend(c, numbers::number(w, 2)));
+    let powers = libm::powers_of_two();
+    numbers::put(out, 0, aero::stall_blend(c, numbers::number(w, 2), &powers));
     1
 }
 
@@ -210,7 +209,11 @@ pub fn wrench(w: &[u32; 192], inputs: usize, out: &mut [u32; 64]) -> usize
     let air = numbers::vec(w, 26);
     let rates = numbers::vec(w, 29);
     let deflection = numbers::vec(w, 32);
-    put_aero(out, aero::wrench(m, air, rates, deflection, wash, 1.225));
+    let powers = libm::powers_of_two();
+    put_aero(
+        out,
+        aero::wrench(m, air, rates, deflection, wash, 1.225, &powers),
+    );
     8
 }
 

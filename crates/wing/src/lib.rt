@@ -1,8 +1,10 @@
-// 01, module 8: the tick. Lags, thrust, wash, aerodynamics and the body's step, with the tests 6 to 10 around them.
+// 01, module 8: the tick. Lags, thrust, wash, aerodynamics and the body's step, with the tests 6 to 10 around them. `powers` is
+// libm's table of powers of two, made once a tick or once a run.
 ghost use mathlib.Core.Bool.{true};
 ghost use mathlib.Core.Path.{_≡_};
 ghost use Rattle.airframe.specs.Acceptance.{refusedPlace};
 ghost use Rattle.flight.specs.Envelope.{isInside};
+ghost use Rattle.libm.specs.Powers.{powersOfTwo};
 ghost use Rattle.wing.specs.Contracts as Contracts;
 ghost use Rattle.wing.specs.Loads as LoadsOf;
 ghost use Rattle.wing.specs.Tick as TickOf;
@@ -14,6 +16,7 @@ use body::MassProperties;
 use fixed_wing::FixedWingModel;
 use flight::Flight;
 use flight::Tick;
+use libm::POWER_COUNT;
 use motors::Motors;
 use surfaces::Surfaces;
 use tailsitter_model::Wash;
@@ -57,30 +60,45 @@ pub fn tick(a: Airframe, f: Flight, t: Tick) -> Ticked
 {
     let place = a.refused_place();
     if place == 0 {
-        return tick_accepted(a, f, t);
+        let powers = libm::powers_of_two();
+        let lags = begin(a, t.step_s, &powers);
+        return tick_accepted(a, f, t, lags, &powers);
     }
     refused(Answer::NumberOutOfRange(place), f)
 }
 
-// The same of an airframe that is accepted: the tests 7, 8, 10 and 9.
-pub fn tick_accepted(a: Airframe, f: Flight, t: Tick) -> Ticked
-    requires { ⌜ refusedPlace a ≡ 0 ⌝ }
+// The same of an airframe that is accepted, with the lag factors of the tick's step: the tests 7, 8, 10 and 9.
+pub fn tick_accepted(
+    a: Airframe,
+    f: Flight,
+    t: Tick,
+    lags: LagFactors,
+    powers: &[f32; POWER_COUNT],
+) -> Ticked
+    requires { ⌜ refusedPlace a ≡ 0 ⌝ ∗ ⌜ lags ≡ Contracts.beginOf a (t .«step_s») ⌝ ∗ ⌜ now powers ≡ powersOfTwo ⌝ }
     ensures { λ r. ⌜ r ≡ TickOf.tickOf a f t ⌝ }
 {
     if f.is_inside() {
-        return tick_inside(a, f, t, begin(a, t.step_s));
+        return tick_inside(a, f, t, lags, powers);
     }
     refused(Answer::StateOutside, f)
 }
 
-// The same from a state inside the envelope, with the lag factors of the tick's step: the tests 8, 10 and 9.
-pub fn tick_inside(a: Airframe, f: Flight, t: Tick, lags: LagFactors) -> Ticked
-    requires { ⌜ refusedPlace a ≡ 0 ⌝ ∗ ⌜ isInside f ≡ true ⌝ ∗ ⌜ lags ≡ Contracts.beginOf a (t .«step_s») ⌝ }
+// The same from a state inside the envelope: the tests 8, 10 and 9.
+pub fn tick_inside(
+    a: Airframe,
+    f: Flight,
+    t: Tick,
+    lags: LagFactors,
+    powers: &[f32; POWER_COUNT],
+) -> Ticked
+    requires { ⌜ refusedPlace a ≡ 0 ⌝ ∗ ⌜ isInside f ≡ true ⌝ ∗ ⌜ lags ≡ Contracts.beginOf a (t .«step_s») ⌝
+        ∗ ⌜ now powers ≡ powersOfTwo ⌝ }
     ensures { λ r. ⌜ r ≡ TickOf.tickOf a f t ⌝ }
 {
     if float::inside(t.step_s, 0.0009765625, 0.02) {
         if wind_usable(t.wind_ned_mps) {
-            return unless_departed(f, next_with(a, f, t, lags));
+            return unless_departed(f, next_with(a, f, t, lags, powers));
         }
         return refused(Answer::WindUnusable, f);
     }
@@ -119,32 +137,44 @@ fn unless_departed(f: Flight, n: Ticked) -> Ticked
 }
 
 // The lag factors of a step.
-pub fn begin(a: Airframe, step_s: f32) -> LagFactors
+pub fn begin(a: Airframe, step_s: f32, powers: &[f32; POWER_COUNT]) -> LagFactors
+    requires { ⌜ now powers ≡ powersOfTwo ⌝ }
     ensures { λ r. ⌜ r ≡ Contracts.beginOf a «step_s» ⌝ }
 {
     let m = a.model;
     let motors = a.motors;
     LagFactors {
         step_bits: float::to_bits(step_s),
-        motor: motors.lag_factor(step_s),
-        servo: lag::factor(step_s, m.servo_time_constant_s),
+        motor: motors.lag_factor(step_s, powers),
+        servo: lag::factor(step_s, m.servo_time_constant_s, powers),
     }
 }
 
 // The lag factors of a step, `held` being those of the last one: a step with the same bits has the same.
-pub fn begin_after(a: Airframe, held: LagFactors, step_s: f32) -> LagFactors
-    requires { ⌜ Contracts.OfTheirStep a held ⌝ }
+pub fn begin_after(
+    a: Airframe,
+    held: LagFactors,
+    step_s: f32,
+    powers: &[f32; POWER_COUNT],
+) -> LagFactors
+    requires { ⌜ Contracts.OfTheirStep a held ⌝ ∗ ⌜ now powers ≡ powersOfTwo ⌝ }
     ensures { λ r. ⌜ r ≡ Contracts.beginOf a «step_s» ⌝ ∗ ⌜ Contracts.OfTheirStep a r ⌝ }
 {
     if float::to_bits(step_s) == held.step_bits {
         return held;
     }
-    begin(a, step_s)
+    begin(a, step_s, powers)
 }
 
 // The next state and its report, whatever the tests say, with the lag factors of the tick's step.
-fn next_with(a: Airframe, f: Flight, t: Tick, lags: LagFactors) -> Ticked
-    requires { ⌜ lags ≡ Contracts.beginOf a (t .«step_s») ⌝ }
+fn next_with(
+    a: Airframe,
+    f: Flight,
+    t: Tick,
+    lags: LagFactors,
+    powers: &[f32; POWER_COUNT],
+) -> Ticked
+    requires { ⌜ lags ≡ Contracts.beginOf a (t .«step_s») ⌝ ∗ ⌜ now powers ≡ powersOfTwo ⌝ }
     ensures { λ r. ⌜ r ≡ TickOf.nextOf a f t ⌝ }
 {
     let commands = t.motors;
@@ -158,6 +188,7 @@ fn next_with(a: Airframe, f: Flight, t: Tick, lags: LagFactors) -> Ticked
         f.body,
         t.wind_ned_mps,
         AIR_DENSITY_KGPM3,
+        powers,
     );
     let running = motors.running;
     let positions = surfaces.running;
@@ -195,7 +226,9 @@ pub fn loads(
     body: Body,
     wind_ned_mps: Vec3,
     density_kgpm3: f32,
+    powers: &[f32; POWER_COUNT],
 ) -> Loaded
+    requires { ⌜ now powers ≡ powersOfTwo ⌝ }
     ensures { λ r. ⌜ r ≡ LoadsOf.loadsOf a motors surfaces body «wind_ned_mps» «density_kgpm3» ⌝ }
 {
     let m = a.model;
@@ -214,6 +247,7 @@ pub fn loads(
         deflection_rad,
         wash,
         density_kgpm3,
+        powers,
     );
     with_thrust(m, attitude, pull, aero)
 }

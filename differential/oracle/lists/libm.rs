@@ -23,8 +23,18 @@ pub fn sqrtf() -> String {
     unary("sqrtf", "hardware square root", libm::sqrtf, fixed, 1000.0)
 }
 
+/// Whether exp answers near each of its 254 powers of two, 2^-126 to 2^127.
+fn near_every_power(arguments: &[f32]) -> bool {
+    let near: Vec<f64> = arguments
+        .iter()
+        .map(|x| f64::from(libm::expf(*x)).log2().round())
+        .collect();
+    (-126..128).all(|k| near.contains(&f64::from(k)))
+}
+
 pub fn expf() -> String {
     let fixed = arguments::for_exp();
+    assert!(near_every_power(&fixed), "a power of two is missing");
     unary("expf", "document 01's formula", libm::expf, fixed, 90.0)
 }
 

@@ -8,12 +8,12 @@ use Rattle.aero.proofs.exponent.Tie as tie
 clamp-requires : tie.Need-clamp-requires
 clamp-requires c κs = search needs
 
-expf-requires : tie.Need-expf-requires
-expf-requires c κs = search needs
+expf-with-requires : tie.Need-expf-with-requires
+expf-with-requires c κs = search needs
 
 returns : tie.Need-returns
 unfolding exponent ofBits neg round
-returns c = simp (c .expf .ensures, c .before .clamp .ensures)
+returns c = simp (c .expf-with .ensures, c .before .clamp .ensures)
 
 pub exponent-spec : {M : Type 1} → statement M
-exponent-spec = tie.close (tie.spec clamp-requires expf-requires returns)
+exponent-spec = tie.close (tie.spec clamp-requires expf-with-requires returns)

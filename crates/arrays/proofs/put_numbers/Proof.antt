@@ -6,7 +6,8 @@ use lib.ListN.{length}
 use lib.Seq.{ext-getD}
 use mathlib.Core.Path.{_∙_, refl}
 use native.Mathlib.Omega.{arith}
-use Rattle.mixers.proofs.Filling.{Reached, length-listOf, listOf-at, reach-end, reach-more, reach-start}
+use Rattle.float.proofs.Lists.{length-listOf, listOf-at}
+use Rattle.mixers.proofs.Filling.{Reached, reach-end, reach-more, reach-start}
 use Rattle.mixers.specs.Slots.{at}
 use Rattle.arrays.proofs.put_numbers.Statement.{statement}
 use Rattle.arrays.proofs.put_numbers.Tie as tie

@@ -1,6 +1,7 @@
 -- `arrays::refused_place` meets its contract. Assumes nothing.
 use borrow.Author.Needs.{needs}
 use mathlib.Core.Path.{_∙_, _≡_, sym}
+use Rattle.float.specs.Lists.{listFrom, listOf}
 use Rattle.arrays.proofs.Places.{array-refused, tests}
 use Rattle.arrays.specs.Airframe.{placesIn}
 use Rattle.arrays.proofs.refused_place.Statement.{statement}
@@ -15,8 +16,8 @@ shared-slice-read-kind-of c = search needs
 kind-of-requires : tie.Need-kind-of-requires
 kind-of-requires c κs = search needs
 
-array-read-falloff-of : tie.Need-array-read-falloff-of
-array-read-falloff-of c = search needs
+shared-slice-read-falloff-of : tie.Need-shared-slice-read-falloff-of
+shared-slice-read-falloff-of c = search needs
 
 falloff-of-requires : tie.Need-falloff-of-requires
 falloff-of-requires c κs = search needs
@@ -37,9 +38,15 @@ first-refused-requires : tie.Need-first-refused-requires
 first-refused-requires c κs = search needs
 
 returns : tie.Need-returns
+unfolding placesIn listOf listFrom
 returns c =
-    let xs = c .before .before .before .before .before .before .before .before .before .before .args .xs .now in
-    let e : c .first-refused .result ≡ tests xs (placesIn xs) = cc in
+    let w = c .before in
+    let t = w .before in
+    let s = t .before in
+    let f = s .before .before in
+    let k = f .before .before in
+    let xs = k .before .before .before .before .args .xs .now in
+    let e : c .first-refused .result ≡ tests xs (placesIn xs) = simp (c .first-refused .ensures, w .vecs-in2 .ensures, t .vecs-in .ensures, s .is-set .ensures, f .falloff-of .ensures, k .kind-of .ensures, k .before .before .places-in .ensures) in
     e ∙ sym (array-refused xs)
 
 pub refused-place-spec : {M : Type 1} → statement M
@@ -49,7 +56,7 @@ refused-place-spec =
     places-in-requires
     shared-slice-read-kind-of
     kind-of-requires
-    array-read-falloff-of
+    shared-slice-read-falloff-of
     falloff-of-requires
     shared-slice-read-is-set
     is-set-requires

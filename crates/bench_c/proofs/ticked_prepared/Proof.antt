@@ -13,11 +13,19 @@ refused-place-requires c κs = search needs
 airframe-in-requires : tie.Need-airframe-in-requires
 airframe-in-requires c κs = search needs
 
+powers-of-two-requires : tie.Need-powers-of-two-requires
+powers-of-two-requires c κs = search needs
+
+begin-requires : tie.Need-begin-requires
+begin-requires c κs = search needs
+
 tick-accepted-requires : tie.Need-tick-accepted-requires
-tick-accepted-requires c κs = ap refusedPlace (c .airframe-in .ensures) ∙ sym (c .before .before .refused-place .ensures) ∙ c .before .if1 .taken
+tick-accepted-requires c κs =
+    let t = c .before .before .before .before in
+    (ap refusedPlace (t .airframe-in .ensures) ∙ sym (t .before .before .refused-place .ensures) ∙ t .before .if1 .taken, (c .before .begin .ensures, c .before .before .before .powers-of-two .ensures))
 
 returns : tie.Need-returns
-returns c = simp (c .tick-accepted .ensures, c .before .airframe-in .ensures)
+returns c = simp (c .tick-accepted .ensures, c .before .before .before .before .before .airframe-in .ensures)
 
 refused-requires : tie.Need-refused-requires
 refused-requires c κs = search needs
@@ -32,6 +40,8 @@ ticked-prepared-spec =
     (tie.spec
     refused-place-requires
     airframe-in-requires
+    powers-of-two-requires
+    begin-requires
     tick-accepted-requires
     returns
     refused-requires

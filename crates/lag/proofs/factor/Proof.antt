@@ -5,12 +5,12 @@ use Rattle.lag.specs.Lag.{factorOf}
 use Rattle.lag.proofs.factor.Statement.{statement}
 use Rattle.lag.proofs.factor.Tie as tie
 
-expf-requires : tie.Need-expf-requires
-expf-requires c κs = search needs
+expf-with-requires : tie.Need-expf-with-requires
+expf-with-requires c κs = search needs
 
 returns : tie.Need-returns
 unfolding factorOf ofBits
-returns c = simp (c .expf .ensures)
+returns c = simp (c .expf-with .ensures)
 
 pub factor-spec : {M : Type 1} → statement M
-factor-spec = tie.close (tie.spec expf-requires returns)
+factor-spec = tie.close (tie.spec expf-with-requires returns)

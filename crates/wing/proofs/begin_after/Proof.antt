@@ -11,7 +11,7 @@ to-bits-requires : tie.Need-to-bits-requires
 to-bits-requires c κs = search needs
 
 returns : tie.Need-returns
-returns c = (begin-held _ _ _ (subst T (sym (c .before .before .before .good .1 .1 .0 .1)) tt) (sym (c .before .before .to-bits .ensures) ∙ c .if1 .taken) (c .before .before .before .pre), c .before .before .before .pre)
+returns c = (begin-held _ _ _ (subst T (sym (c .before .before .before .good .1 .1 .0 .1)) tt) (sym (c .before .before .to-bits .ensures) ∙ c .if1 .taken) (c .before .before .before .pre .0), c .before .before .before .pre .0)
 
 begin-requires : tie.Need-begin-requires
 begin-requires c κs = search needs

@@ -26,7 +26,7 @@ stepped-requires c κs = search needs
 
 returns : tie.Need-returns
 unfolding nextOf nextFrom spunOf movedOf beginOf ofBits round
-returns c = simp (c .stepped .ensures, c .before .before .before .loads .ensures, c .before .before .before .before .move-to .ensures, c .before .before .before .before .before .surfaces-of .ensures, c .before .before .before .before .before .before .spin .ensures, c .before .before .before .before .before .before .before .motors-of .ensures, c .before .before .before .before .before .before .before .before .before .before .pre)
+returns c = simp (c .stepped .ensures, c .before .before .before .loads .ensures, c .before .before .before .before .move-to .ensures, c .before .before .before .before .before .surfaces-of .ensures, c .before .before .before .before .before .before .spin .ensures, c .before .before .before .before .before .before .before .motors-of .ensures, c .before .before .before .before .before .before .before .before .before .before .pre .0)
 
 pub next-with-spec : {M : Type 1} → statement M
 next-with-spec =

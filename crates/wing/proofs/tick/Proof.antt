@@ -15,8 +15,16 @@ use Rattle.wing.proofs.tick.Tie as tie
 refused-place-requires : tie.Need-refused-place-requires
 refused-place-requires c κs = search needs
 
+powers-of-two-requires : tie.Need-powers-of-two-requires
+powers-of-two-requires c κs = search needs
+
+begin-requires : tie.Need-begin-requires
+begin-requires c κs = search needs
+
 tick-accepted-requires : tie.Need-tick-accepted-requires
-tick-accepted-requires c κs = sym (c .before .refused-place .ensures) ∙ c .if1 .taken
+tick-accepted-requires c κs =
+    let t = c .before .before .before .before in
+    (sym (t .before .refused-place .ensures) ∙ t .if1 .taken, (c .before .begin .ensures, c .before .before .before .powers-of-two .ensures))
 
 returns : tie.Need-returns
 returns c = search needs
@@ -33,4 +41,4 @@ returns-2 c =
 
 pub tick-spec : {M : Type 1} → statement M
 tick-spec =
-    tie.close (tie.spec refused-place-requires tick-accepted-requires returns refused-requires returns-2)
+    tie.close (tie.spec refused-place-requires powers-of-two-requires begin-requires tick-accepted-requires returns refused-requires returns-2)

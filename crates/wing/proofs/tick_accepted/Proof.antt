@@ -8,11 +8,10 @@ use Rattle.wing.proofs.tick_accepted.Tie as tie
 is-inside-requires : tie.Need-is-inside-requires
 is-inside-requires c κs = search needs
 
-begin-requires : tie.Need-begin-requires
-begin-requires c κs = search needs
-
 tick-inside-requires : tie.Need-tick-inside-requires
-tick-inside-requires c κs = (c .before .before .before .pre, (sym (c .before .before .is-inside .ensures) ∙ c .before .if1 .taken, c .begin .ensures))
+tick-inside-requires c κs =
+    let p = c .before .before .pre in
+    (p .0, (sym (c .before .is-inside .ensures) ∙ c .if1 .taken, p .1))
 
 returns : tie.Need-returns
 returns c = search needs
@@ -22,14 +21,13 @@ refused-requires c κs = search needs
 
 returns-2 : tie.Need-returns-2
 unfolding tickOf acceptedTick
-returns-2 c = simp (c .refused .ensures, c .before .before .before .pre, sym (c .before .before .is-inside .ensures) ∙ c .before .if1 .left)
+returns-2 c = simp (c .refused .ensures, c .before .before .before .pre .0, sym (c .before .before .is-inside .ensures) ∙ c .before .if1 .left)
 
 pub tick-accepted-spec : {M : Type 1} → statement M
 tick-accepted-spec =
     tie.close
     (tie.spec
     is-inside-requires
-    begin-requires
     tick-inside-requires
     returns
     refused-requires

@@ -1,0 +1,86 @@
+-- The places of the table of powers: what stands at each, at which of them an exponent's power stands, that exp reads each of them, and that exp answers what it did when the power was made from its bits. Assumes nothing.
+use Prim.Native.Nat.{_*_, _+_, _-_, _<_, suc, ℕ}
+use lib.Arith.{le→nltb, lt→nleb}
+use lib.Dec.{leb, leb→le, le→leb, ltb}
+use lib.Ieee.{Float, add, binary32, fin, le, lt, minus, mul, nan, neg, ofBits, ofInt, round, sub, toSigned}
+use lib.Ieee.Bits.{is-false, is-true}
+use lib.IntN.{_+ℤ_, natAbs, negsuc, pos, ℤ}
+use lib.ListN.{getD}
+use mathlib.Core.Bool.{Bool, cond, false, true}
+use mathlib.Core.Path.{_∙_, _≡_, ap, refl, sym}
+use native.Mathlib.Omega.{arith}
+use Rattle.float.proofs.Bounds.{inside-within}
+use Rattle.float.proofs.Lists.{listOf-at, same-at}
+use Rattle.float.specs.Interval.{Within, inside}
+use Rattle.float.specs.Lists.{listFrom, listOf}
+use Rattle.float.specs.Notation.{_⊗_, clamp}
+use Rattle.libm.proofs.Turns.{exp-core, turns-exponent}
+use Rattle.libm.specs.Contracts.{Exponent}
+use Rattle.libm.specs.Exp.{core, expOf, highest, ln2High, lowest, near-down, near-up, poly, rest, turns}
+use Rattle.libm.specs.Powers.{powerAt, powerCount, powersOfTwo}
+
+-- ---- the table, computed once: the power of place i has i + 1 in the field of the exponent, and no digits
+pub patterns : powersOfTwo ≡ listOf (λ (i : ℕ). ofBits binary32 (suc i * 8388608)) powerCount
+unfolding powersOfTwo powerAt listOf listFrom ofBits
+patterns = refl
+
+-- ---- place i of the table is the power that i says
+pub entry : (i : ℕ) → i < powerCount → getD powersOfTwo i nan ≡ powerAt i
+unfolding powersOfTwo
+entry i h = listOf-at nan powerAt powerCount i h
+
+-- ---- the place of an exponent k, k + 126
+pub record Place (k z : ℤ) : Type 0 where
+  pub i : ℕ
+  pub is : z ≡ pos i
+  pub below : i < powerCount
+  pub power : powerAt i ≡ fin false 1 k
+  biased : natAbs (k +ℤ pos 127) ≡ suc i
+
+pub place : (k : ℤ) → Exponent k → Place k (k +ℤ pos 126)
+unfolding powerAt
+place (pos a) e =
+    let b = leb→le a 127 (e .at-most) in
+    record {
+      i = a + 126;
+      is = refl;
+      below = omega arith;
+      power = ap (λ (z : ℤ). fin false 1 z) (ap (λ (t : Bool). cond t (pos (a + 126 - 126)) (negsuc (126 - suc (a + 126)))) (is-true (leb 126 (a + 126)) (le→leb 126 (a + 126) (omega arith))) ∙ ap pos (omega arith));
+      biased = omega arith;
+    }
+place (negsuc a) e =
+    let b = leb→le a 125 (e .at-least) in
+    record {
+      i = 126 - suc a;
+      is = ap (λ (t : Bool). cond t (negsuc (suc a - 127)) (pos (126 - suc a))) (is-false (ltb 126 (suc a)) (le→nltb 126 (suc a) (omega arith)));
+      below = omega arith;
+      power = ap (λ (z : ℤ). fin false 1 z) (ap (λ (t : Bool). cond t (pos (126 - suc a - 126)) (negsuc (126 - suc (126 - suc a)))) (is-false (leb 126 (126 - suc a)) (lt→nleb 126 (126 - suc a) (omega arith))) ∙ ap negsuc (omega arith));
+      biased = ap (λ (t : Bool). natAbs (cond t (negsuc (suc a - 128)) (pos (127 - suc a)))) (is-false (ltb 127 (suc a)) (le→nltb 127 (suc a) (omega arith))) ∙ omega arith;
+    }
+
+-- ---- exp reads each place: at (i - 126) * ln 2, held within -87 and 88, it has i - 126 turns
+abbrev argument : ℕ → Float
+argument i = clamp lowest highest (ofInt binary32 (minus i 126) ⊗ ln2High)
+
+arguments-inside : listOf (λ (i : ℕ). inside lowest highest (argument i)) powerCount ≡ listOf (λ (i : ℕ). true) powerCount
+unfolding listOf listFrom inside clamp lt le mul ofInt neg ofBits round
+arguments-inside = refl
+
+argument-turns : listOf (λ (i : ℕ). turns (argument i)) powerCount ≡ listOf (λ (i : ℕ). minus i 126) powerCount
+unfolding listOf listFrom turns near-up near-down toSigned clamp lt le add sub mul ofInt neg ofBits round
+argument-turns = refl
+
+pub each-read : (i : ℕ) → i < powerCount → Within lowest highest (argument i) × (turns (argument i) ≡ minus i 126)
+each-read i h =
+    (inside-within (same-at false (λ (i : ℕ). inside lowest highest (argument i)) (λ (i : ℕ). true) powerCount arguments-inside i h), same-at (pos 0) (λ (i : ℕ). turns (argument i)) (λ (i : ℕ). minus i 126) powerCount argument-turns i h)
+
+-- ---- exp answers as before, when 2 ^ k was made from its bits: k + 127 in the field of the exponent, and no digits
+power-as-before : (k : ℤ) → Exponent k → fin false 1 k ≡ ofBits binary32 (natAbs (k +ℤ pos 127) * 8388608)
+unfolding powersOfTwo
+power-as-before k e =
+    let p = place k e in
+    sym (p .power) ∙ same-at nan powerAt (λ (i : ℕ). ofBits binary32 (suc i * 8388608)) powerCount patterns (p .i) (p .below) ∙ ap (λ (n : ℕ). ofBits binary32 (n * 8388608)) (sym (p .biased))
+
+pub exp-as-before : (x : Float) → Within lowest highest x → expOf x ≡ poly (rest x (turns x)) ⊗ ofBits binary32 (natAbs (turns x +ℤ pos 127) * 8388608)
+unfolding core
+exp-as-before x w = exp-core x w ∙ ap (λ (p : Float). poly (rest x (turns x)) ⊗ p) (power-as-before (turns x) (turns-exponent x w))
