@@ -366,6 +366,8 @@ pub mod raw {
             ) -> u64;
             pub safe fn bench_sqrtf(x: f32) -> f32;
             pub safe fn bench_expf(x: f32) -> f32;
+            pub safe fn bench_logf(v: f32) -> f32;
+            pub safe fn bench_powf(v: f32, e: f32) -> f32;
             pub safe fn bench_sinf(x: f32) -> f32;
             pub safe fn bench_cosf(x: f32) -> f32;
             pub safe fn bench_asinf(s: f32) -> f32;
@@ -379,6 +381,14 @@ pub mod raw {
 
     pub fn expf(x: f32) -> f32 {
         guarded(|| library::bench_expf(x))
+    }
+
+    pub fn logf(v: f32) -> f32 {
+        guarded(|| library::bench_logf(v))
+    }
+
+    pub fn powf(v: f32, e: f32) -> f32 {
+        guarded(|| library::bench_powf(v, e))
     }
 
     pub fn sinf(x: f32) -> f32 {

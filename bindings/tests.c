@@ -1,6 +1,7 @@
 /* The header's own code on a sample flight: tests FILE OLDER. Words and lengths, and the guarded forms from every float
  * environment: the bits they give are those of the plain calls in the default one, and the caller's control word comes back. And
- * the winds and thrust scales that a tick refuses, at their limits. OLDER is the same flight with a state block without scales. */
+ * the winds, thrust scales and thrust exponents that a tick refuses, at their limits. OLDER is the same flight with a state block
+ * without scales. */
 #include <stdio.h>
 #include <string.h>
 
@@ -97,20 +98,21 @@ struct calls {
     uint64_t (*mirrored_pair)(const uint8_t *, size_t, float *, size_t, float *, size_t, const uint8_t *, size_t, uint64_t *,
                               uint64_t *);
     float (*sqrtf)(float), (*expf)(float), (*sinf)(float), (*cosf)(float), (*asinf)(float), (*atan2f)(float, float);
+    float (*logf)(float), (*powf)(float, float);
 };
 
 #define CALLS(FORM)                                                                                                         \
     {                                                                                                                       \
         FORM##read_airframe, FORM##prepare, FORM##read_state, FORM##write_state, FORM##read_tick, FORM##write_tick,         \
             FORM##tick, FORM##tick_prepared, FORM##run, FORM##mirrored_pair, FORM##sqrtf, FORM##expf, FORM##sinf,           \
-            FORM##cosf, FORM##asinf, FORM##atan2f                                                                           \
+            FORM##cosf, FORM##asinf, FORM##atan2f, FORM##logf, FORM##powf                                                   \
     }
 static const struct calls plain = CALLS(bench_), guarded = CALLS(bench_guarded_);
 
 /* What all calls give on the sample. */
 struct results {
     uint64_t replies[10], accepted[3];
-    float airframe[A], tick[T], start[S], by_block[S], prepared[S], report[2][R], ran[S], pair[2][S], functions[6];
+    float airframe[A], tick[T], start[S], by_block[S], prepared[S], report[2][R], ran[S], pair[2][S], functions[8];
     uint8_t state_block[BENCH_STATE_BYTES], tick_block[BENCH_TICK_BYTES];
 };
 
@@ -153,6 +155,8 @@ static void compute(const struct calls *call, struct results *r)
     r->functions[3] = call->cosf(1.0f);
     r->functions[4] = call->asinf(0.3f);
     r->functions[5] = call->atan2f(1.0f, 3.0f);
+    r->functions[6] = call->logf(0.3f);
+    r->functions[7] = call->powf(0.3f, 1.8f);
 }
 
 static void make_all(const struct calls *call, const struct sample *s, struct results *r)
@@ -417,6 +421,40 @@ static void test_scales(const struct sample *s)
     }
 }
 
+/* ---- The thrust exponent ---- */
+
+/* 1, 1.8, 2 and its neighbours, 3; the next float beyond either limit, 0, infinities, NaNs. */
+static const uint32_t exponents[] = {0x3F800000, 0x3FE66666, 0x3FFFFFFF, 0x40000000, 0x40000001, 0x40400000};
+static const uint32_t no_exponents[] = {0x3F7FFFFF, 0x40400001, 0x00000000, 0x7F800000, 0xFF800000, 0x7FC00000, 0xFFC00000};
+enum { EXPONENTS = sizeof exponents / sizeof *exponents, NO_EXPONENTS = sizeof no_exponents / sizeof *no_exponents };
+
+/* All replies of calls with the sample's airframe where its exponent has these bits. */
+static void fly_with_exponent(const struct sample *s, uint32_t bits, uint64_t expected)
+{
+    uint8_t *numbers = s->airframe + 2, was[4];
+    struct results r;
+    memcpy(was, numbers + 4 * (BENCH_PLACE_THRUST_EXPONENT - 1), sizeof was);
+    put(numbers, BENCH_PLACE_THRUST_EXPONENT - 1, bits);
+    read_blocks(&guarded, s, &r);
+    run_both(&guarded, s, &r);
+    check(r.replies[0] == expected && r.replies[1] == expected, "another reply to its block", "an exponent");
+    check(r.replies[6] == expected && r.replies[7] == expected, "another reply to a run", "an exponent");
+    memcpy(numbers + 4 * (BENCH_PLACE_THRUST_EXPONENT - 1), was, sizeof was);
+    guarded.prepare(s->airframe, s->airframe_bytes, r.airframe, A);
+    memcpy(r.airframe + BENCH_PLACE_THRUST_EXPONENT - 1, &bits, sizeof bits);
+    memcpy(r.prepared, r.start, sizeof r.start);
+    r.replies[5] = guarded.tick_prepared(r.airframe, A, r.prepared, S, r.tick, T, r.report[1], R);
+    check(r.replies[5] == expected, "another reply to a tick", "an exponent");
+}
+
+static void test_exponents(const struct sample *s)
+{
+    for (size_t at = 0; at < EXPONENTS; at++)
+        fly_with_exponent(s, exponents[at], BENCH_DONE);
+    for (size_t at = 0; at < NO_EXPONENTS; at++)
+        fly_with_exponent(s, no_exponents[at], BENCH_NUMBER_OUT_OF_RANGE + 16 * BENCH_PLACE_THRUST_EXPONENT);
+}
+
 int main(int count, char **arguments)
 {
     struct sample sample, older;
@@ -432,5 +470,6 @@ int main(int count, char **arguments)
     test_guard(&sample);
     test_winds(&sample);
     test_scales(&sample);
+    test_exponents(&sample);
     return failures != 0;
 }

@@ -3,6 +3,8 @@
 
 #[path = "tests/environments.rs"]
 mod environments;
+#[path = "tests/exponents.rs"]
+mod exponents;
 #[path = "tests/limits.rs"]
 mod limits;
 #[path = "tests/nans.rs"]
@@ -12,7 +14,9 @@ mod scales;
 #[path = "tests/winds.rs"]
 mod winds;
 
-use bench::{Airframe, Answer, STATE_BYTES, State, TICK_BYTES, TICK_NUMBERS, raw};
+use bench::{AIRFRAME_FALLOFF, AIRFRAME_NUMBERS, AIRFRAME_USED, Airframe, Answer, REPORT_NUMBERS, REPORT_THRUST, SLOTS};
+use bench::{STATE_BYTES, STATE_MOTORS, STATE_SCALES, STATE_VELOCITY, State, TICK_BYTES, TICK_NUMBERS, TICK_STEP, Tick};
+use bench::{place, raw};
 
 struct Sample {
     airframe: Airframe,
@@ -32,6 +36,48 @@ fn sample() -> Sample {
         airframe: Airframe::read(&bytes[..at]).expect("an accepted airframe"),
         state: bench::read_state(&bytes[at..at + STATE_BYTES]).expect("an accepted state"),
         trace: bytes[at + STATE_BYTES..].to_vec(),
+    }
+}
+
+/// A tick of 0.01 s in still air without commands.
+fn calm() -> Tick {
+    let mut tick = [0.0; TICK_NUMBERS];
+    tick[TICK_STEP] = 0.01;
+    tick
+}
+
+/// One motor that no row names, so that its running value stays; no air takes of its thrust.
+struct Motor {
+    max_thrust_n: f32,
+    exponent: f32,
+    slot: usize,
+    running: f32,
+    scale: f32,
+}
+
+impl Motor {
+    /// The sample's airframe with such motors.
+    fn airframe(&self, sample: &Sample) -> [f32; AIRFRAME_NUMBERS] {
+        let mut airframe = *sample.airframe.numbers();
+        airframe[place::MAX_THRUST_N as usize - 1] = self.max_thrust_n;
+        airframe[place::THRUST_EXPONENT as usize - 1] = self.exponent;
+        airframe[place::THRUST_FALLOFF as usize - 1] = 0.0;
+        airframe[AIRFRAME_FALLOFF] = 0.0;
+        airframe[AIRFRAME_USED..AIRFRAME_USED + SLOTS].fill(0.0);
+        airframe
+    }
+
+    /// The thrust that a tick reports where it alone runs.
+    fn pull(&self, sample: &Sample) -> f32 {
+        let mut state = sample.state;
+        state[STATE_VELOCITY..STATE_VELOCITY + 3].fill(0.0);
+        state[STATE_MOTORS..STATE_MOTORS + SLOTS].fill(0.0);
+        state[STATE_MOTORS + self.slot] = self.running;
+        state[STATE_SCALES + self.slot] = self.scale;
+        let mut report = [0.0; REPORT_NUMBERS];
+        let reply = raw::tick_prepared(&self.airframe(sample), &mut state, &calm(), &mut report);
+        assert_eq!(reply, 0);
+        report[REPORT_THRUST]
     }
 }
 

@@ -34,9 +34,10 @@ extern "C" {
  * version of the calls: it rises where a call is added or answers otherwise. 2 has bench_read_tick and bench_write_tick, and a
  * run looks at its trace's length before its block. 3 tests the wind of a tick: a NaN or more than 200 m/s gets the new answer
  * 10, after 8 and before 9. 4 has eight thrust scales more in a state: its array has 37 floats, not 29, and its block 148 bytes,
- * not 116, which are still read. */
+ * not 116, which are still read. 5 takes thrust exponents (place 36) from 1 to 3, not 2 alone, and has bench_logf and
+ * bench_powf. */
 #define BENCH_BLOCK_VERSION 1
-#define BENCH_CALLS_VERSION 4
+#define BENCH_CALLS_VERSION 5
 
 /* How many floats each array has. */
 #define BENCH_AIRFRAME_NUMBERS 106
@@ -293,6 +294,12 @@ uint64_t bench_mirrored_pair(const uint8_t *airframe_block, size_t airframe_bloc
 float bench_sqrtf(float x);
 /* e to the power x: 0 under -87, infinity over 88. */
 float bench_expf(float x);
+/* The natural logarithm of v: minus infinity of 0, NaN below 0. */
+float bench_logf(float v);
+/* v to the power e: 0 where v is 0, else the exponential of e times the logarithm of v, at most 1; NaN where v is not in 0..1. A
+ * motor running at v has this share of its thrust by an exponent other than 2; by 2 its share is v * v. The last digits of a power
+ * are those of the formula: v to the power 1 need not be v, nor v to the power 2 be v * v. */
+float bench_powf(float v, float e);
 /* Sine and cosine of x in rad; NaN beyond size 4. */
 float bench_sinf(float x);
 float bench_cosf(float x);
@@ -365,6 +372,8 @@ BENCH_GUARDED(uint64_t, mirrored_pair,
                accepted_reflected))
 BENCH_GUARDED(float, sqrtf, (float x), (x))
 BENCH_GUARDED(float, expf, (float x), (x))
+BENCH_GUARDED(float, logf, (float v), (v))
+BENCH_GUARDED(float, powf, (float v, float e), (v, e))
 BENCH_GUARDED(float, sinf, (float x), (x))
 BENCH_GUARDED(float, cosf, (float x), (x))
 BENCH_GUARDED(float, asinf, (float s), (s))

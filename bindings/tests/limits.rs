@@ -1,7 +1,9 @@
 //! The table of airframe numbers in docs/SCOPE.md, tried on the library: each number is accepted at
 //! its limits and refused with its place at the next float beyond. BENCH_SCOPE names the page.
 
-use bench::{AIRFRAME_NUMBERS, REPORT_NUMBERS, STATE_NUMBERS, TICK_NUMBERS, place, place_name, raw};
+use bench::{AIRFRAME_NUMBERS, REPORT_NUMBERS, STATE_NUMBERS, place, place_name, raw};
+
+use crate::calm;
 
 const HEAD: &str = "| Place | Name | Unit | Low | High | Meaning |";
 const NUMBERS: usize = 48;
@@ -42,13 +44,10 @@ fn table() -> Vec<Row> {
     rows.map(|line| row(line).unwrap_or_else(|| panic!("not a row: {line}"))).collect()
 }
 
-/// An accepted block with wash, and with the rows given: ones, but for the exponent.
+/// An accepted block with wash, and with the rows given: ones.
 fn block(pitch_speed: bool, rows: &[[f32; 3]]) -> Vec<u8> {
     let mut block = vec![if pitch_speed { 0x16 } else { 0x12 }, rows.len() as u8];
-    for place in 1..=NUMBERS as u64 {
-        let number: f32 = if place == place::THRUST_EXPONENT { 2.0 } else { 1.0 };
-        block.extend(number.to_be_bytes());
-    }
+    block.extend([1.0f32; NUMBERS].iter().flat_map(|number| number.to_be_bytes()));
     for factors in rows {
         block.push(0);
         block.extend(factors.iter().flat_map(|factor| factor.to_be_bytes()));
@@ -122,10 +121,9 @@ fn ticked_with(at: usize, number: f32) -> u64 {
     let mut airframe = [0.0; AIRFRAME_NUMBERS];
     assert_eq!(raw::prepare(&block(false, &[]), &mut airframe), 0);
     airframe[at] = number;
-    let (mut state, mut tick) = ([0.0; STATE_NUMBERS], [0.0; TICK_NUMBERS]);
+    let mut state = [0.0; STATE_NUMBERS];
     state[6] = 1.0;
-    tick[0] = 0.01;
-    raw::tick_prepared(&airframe, &mut state, &tick, &mut [0.0; REPORT_NUMBERS])
+    raw::tick_prepared(&airframe, &mut state, &calm(), &mut [0.0; REPORT_NUMBERS])
 }
 
 /// All 24 numbers from `first` on are held to `limit`, both ways.

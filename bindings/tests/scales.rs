@@ -5,12 +5,11 @@
 use std::path::{Path, PathBuf};
 
 use bench::{
-    AIRFRAME_FALLOFF, AIRFRAME_USED, Answer, REPORT_NUMBERS, REPORT_THRUST, SLOTS, STATE_BYTES, STATE_BYTES_UNSCALED,
-    STATE_MOTORS, STATE_NUMBERS, STATE_RATES, STATE_SCALES, STATE_VELOCITY, State, TICK_BYTES, TICK_NUMBERS, TICK_STEP,
-    Tick, place, raw,
+    AIRFRAME_USED, Answer, REPORT_NUMBERS, REPORT_THRUST, SLOTS, STATE_BYTES, STATE_BYTES_UNSCALED, STATE_MOTORS,
+    STATE_NUMBERS, STATE_RATES, STATE_SCALES, State, TICK_BYTES, TICK_STEP, Tick, raw,
 };
 
-use crate::{Sample, sample};
+use crate::{Motor, Sample, sample};
 
 const LEAST: f32 = f32::from_bits(1);
 const PASS: [f32; 5] = [0.0, -0.0, LEAST, 1.0f32.next_down(), 1.0];
@@ -285,19 +284,8 @@ fn a_motors_thrust_goes_with_its_scale() {
 #[test]
 fn a_motor_without_a_row_is_scaled_too() {
     let sample = sample();
-    let mut airframe = *sample.airframe.numbers();
-    airframe[place::MAX_THRUST_N as usize - 1] = 10.0;
-    airframe[place::THRUST_FALLOFF as usize - 1] = 0.0;
-    airframe[AIRFRAME_FALLOFF] = 0.0;
-    airframe[AIRFRAME_USED..AIRFRAME_USED + SLOTS].fill(0.0);
     for slot in 0..SLOTS {
-        let mut state = sample.state;
-        state[STATE_VELOCITY..STATE_VELOCITY + 3].fill(0.0);
-        state[STATE_MOTORS..STATE_MOTORS + SLOTS].fill(0.0);
-        (state[STATE_MOTORS + slot], state[STATE_SCALES + slot]) = (0.5, 0.5);
-        let (mut tick, mut report) = ([0.0; TICK_NUMBERS], ZEROS);
-        tick[TICK_STEP] = 0.01;
-        assert_eq!(raw::tick_prepared(&airframe, &mut state, &tick, &mut report), 0);
-        assert_eq!(report[REPORT_THRUST], 1.25, "slot {slot}");
+        let motor = Motor { max_thrust_n: 10.0, exponent: 2.0, slot, running: 0.5, scale: 0.5 };
+        assert_eq!(motor.pull(&sample), 1.25, "slot {slot}");
     }
 }

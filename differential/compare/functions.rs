@@ -1,4 +1,4 @@
-//! The elementary functions: document 01's formulas against the static library's.
+//! The elementary functions: document 01's and 02's formulas against the static library's.
 
 use std::fs;
 use std::path::{Path, PathBuf};
@@ -26,7 +26,7 @@ fn each(all: Vec<f32>) -> Vec<Vec<f32>> {
     all.into_iter().map(|x| vec![x]).collect()
 }
 
-const FUNCTIONS: [Function; 6] = [
+const FUNCTIONS: [Function; 8] = [
     Function {
         name: "sqrtf",
         inputs: 1,
@@ -75,6 +75,22 @@ const FUNCTIONS: [Function; 6] = [
         fixed: || pairs(arguments::for_atan2()),
         random: |rng| pair(arguments::random_pair(rng)),
     },
+    Function {
+        name: "logf",
+        inputs: 1,
+        oracle: |x| libm::logf(x[0]),
+        bench: |x| raw::logf(x[0]),
+        fixed: || each(arguments::for_log()),
+        random: |rng| vec![arguments::random(rng, 4.0)],
+    },
+    Function {
+        name: "powf",
+        inputs: 2,
+        oracle: |x| libm::powf(x[0], x[1]),
+        bench: |x| raw::powf(x[0], x[1]),
+        fixed: || pairs(arguments::for_pow()),
+        random: |rng| pair(arguments::random_power(rng)),
+    },
 ];
 
 fn pair(of: (f32, f32)) -> Vec<f32> {
@@ -105,17 +121,29 @@ fn compare_one(function: &Function, n: u64, seed: u64, folder: &Path) -> Found {
     tried(function, (function.fixed)().into_iter().chain(random), n, folder)
 }
 
-/// The function of that name at every float there is; None where no function of one argument has
-/// that name.
-pub fn every(name: &str, folder: &Path) -> Option<Found> {
+/// The function of that name at every float there is, with the second argument where it has two; None
+/// where no function with as many has that name.
+pub fn every(name: &str, second: Option<f32>, folder: &Path) -> Option<Found> {
+    let inputs = 1 + usize::from(second.is_some());
     let function = FUNCTIONS
         .iter()
-        .find(|function| function.name == name && function.inputs == 1)?;
-    let floats = (0..=u32::MAX).map(|bits| [f32::from_bits(bits)]);
-    Some(tried(function, floats, 1 << 32, folder))
+        .find(|function| function.name == name && function.inputs == inputs)?;
+    let floats = (0..=u32::MAX).map(f32::from_bits);
+    let arguments = floats.map(|x| [x, second.unwrap_or_default()]);
+    let found = tried(function, arguments, 1 << 32, folder);
+    if let ("powf", Some(e)) = (name, second) {
+        println!("powf: above 1 before it is set to 1: {}", above_one(e));
+    }
+    Some(found)
 }
 
-/// The function at all of these arguments, about `of` of them.
+/// How many floats from 0 to 1 have a power `e` above 1 before it is set to 1.
+fn above_one(e: f32) -> usize {
+    let floats = (0..=1f32.to_bits()).map(f32::from_bits);
+    floats.filter(|v| libm::uncapped_powf(*v, e) > 1.0).count()
+}
+
+/// The function at all of these arguments, of which it takes its own number, about `of` cases.
 fn tried<X: AsRef<[f32]>>(
     function: &Function,
     all: impl Iterator<Item = X>,
@@ -126,7 +154,7 @@ fn tried<X: AsRef<[f32]>>(
     let mut found = Found::default();
     let mut first = None;
     for x in all {
-        let x = x.as_ref();
+        let x = &x.as_ref()[..function.inputs];
         found.cases += 1;
         if differs(function, x) {
             found.differing += 1;

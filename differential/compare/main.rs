@@ -1,8 +1,8 @@
 //! Compares the oracle with the Rattle side: `compare N SEED FOLDER PROGRAM`, or the static library
 //! alone with `compare --library N SEED FOLDER`, or one elementary function at every argument with
-//! `compare --every NAME FOLDER`. One module for each thing compared; a difference is written, as
-//! small as it can be made, into FOLDER. PROGRAM is the Rattle fly; flights are left out where it is
-//! missing.
+//! `compare --every NAME [SECOND] FOLDER`, where SECOND is the second argument of a function of two.
+//! One module for each thing compared; a difference is written, as small as it can be made, into
+//! FOLDER. PROGRAM is the Rattle fly; flights are left out where it is missing.
 
 mod flights;
 mod functions;
@@ -36,7 +36,7 @@ fn main() -> ExitCode {
     let Some(found) = compare(&arguments) else {
         eprintln!("usage: compare N SEED FOLDER PROGRAM");
         eprintln!("       compare --library N SEED FOLDER");
-        eprintln!("       compare --every NAME FOLDER, a function of one argument");
+        eprintln!("       compare --every NAME [SECOND] FOLDER, SECOND for a function of two");
         return ExitCode::FAILURE;
     };
     match found {
@@ -51,8 +51,8 @@ fn main() -> ExitCode {
 /// None where the arguments are not those of the usage.
 fn compare(arguments: &[String]) -> Option<io::Result<Found>> {
     let arguments: Vec<&str> = arguments.iter().map(String::as_str).collect();
-    if let ["--every", name, folder] = arguments.as_slice() {
-        return functions::every(name, Path::new(folder)).map(Ok);
+    if let ["--every", name, second @ .., folder] = arguments.as_slice() {
+        return every(name, second, Path::new(folder)).map(Ok);
     }
     let (alone, n, seed, folder, last) = match arguments.as_slice() {
         ["--library", n, seed, folder] => (true, n, seed, folder, ""),
@@ -66,6 +66,15 @@ fn compare(arguments: &[String]) -> Option<io::Result<Found>> {
     } else {
         everything(n, seed, folder, Path::new(last))
     })
+}
+
+/// The function of that name at every float, with a second argument where one is given.
+fn every(name: &str, second: &[&str], folder: &Path) -> Option<Found> {
+    match second {
+        [] => functions::every(name, None, folder),
+        [second] => functions::every(name, Some(second.parse().ok()?), folder),
+        _ => None,
+    }
 }
 
 fn everything(n: u64, seed: u64, folder: &Path, program: &Path) -> io::Result<Found> {

@@ -1,7 +1,7 @@
 //! The library's calls on one case, each with what must hold after it.
 
 use bench::{AIRFRAME_NUMBERS, REPORT_NUMBERS, SLOTS, STATE_BYTES, STATE_BYTES_UNSCALED, STATE_NUMBERS, STATE_SCALES};
-use bench::{TICK_BYTES, TICK_NUMBERS, raw};
+use bench::{TICK_BYTES, TICK_NUMBERS, place, raw};
 
 use crate::guarded::{Element, Guarded};
 use crate::make::{Case, numbers};
@@ -107,6 +107,9 @@ fn prepare(counts: &mut Counts, case: &Case, read: u64) -> Held {
     })?;
     left(&block, PREPARE)?;
     read_into(&row, AIRFRAME_NUMBERS, reply, PREPARE)?;
+    let exponent = row.content().get(place::THRUST_EXPONENT as usize - 1);
+    let good = reply != 0 || exponent.is_some_and(|x| (1.0..=3.0).contains(x));
+    hold(good, PREPARE, "accepted a thrust exponent beyond its limits")?;
     let same = case.airframe.len() != AIRFRAME_NUMBERS || reply == read;
     hold(same, PREPARE, "another reply than bench_read_airframe")
 }

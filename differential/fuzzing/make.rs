@@ -7,17 +7,23 @@ use crate::rng::Rng;
 use crate::seeds::Flight;
 
 /// Numbers at which a test or a formula may turn.
-const TELLING: [u32; 22] = [
+const TELLING: [u32; 28] = [
     0x0000_0000,
     0x8000_0000,
     0x0000_0001,
     0x8000_0001,
     0x807F_FFFF,
     0x0080_0000,
+    0x29E1_2E13,
+    0x3F7F_FFFF,
     0x3F80_0000,
     0x3F80_0001,
     0xBF80_0000,
+    0x3FFF_FFFF,
     0x4000_0000,
+    0x4000_0001,
+    0x4040_0000,
+    0x4040_0001,
     0x42C8_0000,
     0x42C8_0001,
     0x4348_0000,

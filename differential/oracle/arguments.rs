@@ -94,6 +94,88 @@ pub fn for_exp() -> Vec<f32> {
     all
 }
 
+/// Numbers whose logarithms tell 1/7, 1/5 and 1/3 from the floats next to them, above and below.
+const TELLING_FRACTIONS: [u32; 5] = [
+    0x3F35_358D,
+    0x3F36_BEF4,
+    0x3F35_17B3,
+    0x3F35_0540,
+    0x3F35_07F0,
+];
+
+/// Where m leaps from twice its least to its least, over all n; 1; each power of two below the normal
+/// range, and some above it.
+pub fn for_log() -> Vec<f32> {
+    let mut all = special();
+    let power = |n: i32| 2f64.powi(n);
+    for n in (-148..128).step_by(8) {
+        let leap = (f64::from(0.70710677f32) * power(n)) as f32;
+        all.extend(near(leap, 1));
+    }
+    for n in (-149..-124).chain((-120..128).step_by(10)) {
+        all.extend(near(power(n) as f32, 1));
+    }
+    all.extend(TELLING_FRACTIONS.map(f32::from_bits));
+    all.extend(near_each(&[1.0, 0.70710677, 1.4142135], 3));
+    all.extend(near_each(
+        &[1.0e-13, 0.001, 0.1, 0.3, 0.7, 2.7182817, 10.0],
+        1,
+    ));
+    all
+}
+
+/// Exponents of a motor's thrust: both limits, a toroidal propeller's, 2 and its neighbours.
+pub const EXPONENTS: [f32; 6] = [1.0, 1.8, 2f32.next_down(), 2.0, 2f32.next_up(), 3.0];
+
+/// Any of these exponents, or one between the limits; 2 in almost half of all.
+pub fn exponent(rng: &mut Rng) -> f32 {
+    match rng.below(5) {
+        0 | 1 => 2.0,
+        2 | 3 => rng.pick(&EXPONENTS),
+        _ => rng.between(1.0, 3.0),
+    }
+}
+
+/// Running values at the edges of a power: 0 of both signs, subnormal ones, one whose power 3 is 0 and
+/// one whose powers next to 2 are, and 1 with the float below it.
+pub const TURNING: [f32; 9] = [
+    0.0,
+    -0.0,
+    f32::from_bits(1),
+    f32::from_bits(0x007F_FFFF),
+    f32::MIN_POSITIVE,
+    1.0e-13,
+    1.0e-19,
+    1f32.next_down(),
+    1.0,
+];
+
+/// Each of the exponents with running values, with numbers that are none, and with shares from 0.001
+/// to 0.963.
+pub fn for_pow() -> Vec<(f32, f32)> {
+    let mut all = special();
+    all.extend(TURNING);
+    all.extend(near_each(&[1.0, 0.70710677, 0.5], 1));
+    all.extend((0..27).map(|n| 0.001 + 0.037 * n as f32));
+    let with = |v: f32| EXPONENTS.map(|e| (v, e));
+    all.into_iter().flat_map(with).collect()
+}
+
+/// A random power: the number mostly from 0 to 1, the exponent mostly from 1 to 3.
+pub fn random_power(rng: &mut Rng) -> (f32, f32) {
+    let v = match rng.below(4) {
+        0 => random(rng, 2.0),
+        1 => rng.scaled(-50, 0).abs(),
+        _ => rng.between(0.0, 1.0),
+    };
+    let e = if rng.once_in(8) {
+        random(rng, 4.0)
+    } else {
+        exponent(rng)
+    };
+    (v, e)
+}
+
 /// The size limit 4, the quarter turns and the odd eighths, both signs.
 pub fn for_sin_cos() -> Vec<f32> {
     let mut all = special();

@@ -1,5 +1,5 @@
 //! Document 01's cases: "Flown by hand" and the examples of "What the bench replies"; and document
-//! 02's refused winds and thrust scales.
+//! 02's refused winds, thrust scales and thrust exponents.
 
 use core::hint::black_box;
 
@@ -7,6 +7,7 @@ use stable_flight::Vec3;
 use stable_flight::mixers::{MixRow, Slot};
 
 use crate::aero;
+use crate::arguments::{EXPONENTS, TURNING};
 use crate::blocks::{Airframe, Refusal, SLOTS, STATE_BYTES, State, Tick, UNSCALED_BYTES};
 use crate::blocks::{mix, read_airframe, read_state, write_state};
 use crate::fly::fly;
@@ -32,6 +33,10 @@ pub fn check() -> bool {
         scale_blocks(),
         scales(),
         thrusts(),
+        logarithms(),
+        powers(),
+        exponents(),
+        pulls(),
         flights(),
     ]
     .concat();
@@ -553,7 +558,7 @@ fn pull(block: &AirframeBlock, scale: f32, running: f32, speed: f32) -> f32 {
 
 /// A plain airframe with PitchSpeed 20, whose motors have half of their thrust left at 5 m/s where
 /// their share is 0.25.
-fn pitched() -> AirframeBlock {
+pub fn pitched() -> AirframeBlock {
     let mut block = plain();
     block.pitch_speed = true;
     block.numbers[36] = 20.0;
@@ -608,6 +613,199 @@ fn thrusts() -> Vec<Case> {
         ),
         ("scale 1: as built", pull(&plain(), 1.0, 0.5, 0.0) == 2.5),
         ("the weaker of two motors: the nose turns to it", yaws()),
+    ]
+}
+
+/// Whether f gives each of the answers, by its bits.
+fn gives<X: Copy>(f: impl Fn(X) -> f32, answers: &[(X, u32)]) -> bool {
+    answers.iter().all(|(x, bits)| f(*x).to_bits() == *bits)
+}
+
+/// ln 2^n is n times 0.6931472 for each n that a float has: m is 1, and the series 0.
+fn logarithms_of_powers() -> bool {
+    (-149..128).all(|n| libm::logf(2f64.powi(n) as f32) == n as f32 * 0.6931472)
+}
+
+/// Numbers that no motor runs at.
+const NO_SHARES: [f32; 7] = [
+    1f32.next_up(),
+    1.5,
+    -f32::from_bits(1),
+    f32::NEG_INFINITY,
+    f32::INFINITY,
+    f32::NAN,
+    -f32::NAN,
+];
+
+/// The bits are worked out in exact fractions, each result rounded to an f32 before it is used. So
+/// 0.001 is 3F83126F, 1.024, times 2^-10: s is 3C4246ED, z 39136F93, the sum 3F800189, twice s times
+/// it 3CC24941, and 10 times 0.6931472 is 40DDCE9E.
+fn logarithms() -> Vec<Case> {
+    let (below, least) = (0x3F35_04F2, 0x3F35_04F3);
+    let log_at = |bits| libm::logf(f32::from_bits(bits));
+    vec![
+        ("ln 1 = 0", libm::logf(1.0) == 0.0),
+        ("ln 2^n = n times 0.6931472, each n", logarithms_of_powers()),
+        ("ln 2^-149 = C2CE8ED0", gives(log_at, &[(1, 0xC2CE_8ED0)])),
+        (
+            "subnormal numbers are scaled: ln 3 * 2^-149 = C2CC5C53",
+            gives(log_at, &[(3, 0xC2CC_5C53), (0x007F_FFFF, 0xC2AE_AC50)]),
+        ),
+        (
+            "ln 0.001 = C0DD0C55",
+            gives(libm::logf, &[(0.001, 0xC0DD_0C55)]),
+        ),
+        (
+            "the least m, and the float below it as twice as much",
+            gives(log_at, &[(least, 0xBEB1_7219), (below, 0xBEB1_721B)]),
+        ),
+        (
+            "ln of 0 or -0 is -infinity, of infinity infinity",
+            gives(libm::logf, &[(0.0, 0xFF80_0000), (-0.0, 0xFF80_0000)])
+                && libm::logf(f32::INFINITY) == f32::INFINITY,
+        ),
+        (
+            "ln of a number below 0 or of NaN: NaN",
+            [-f32::from_bits(1), -1.0, f32::NEG_INFINITY, f32::NAN]
+                .map(libm::logf)
+                .iter()
+                .all(|log| log.is_nan()),
+        ),
+    ]
+}
+
+/// Worked out as the logarithms are, from them on: 1.8 times ln 0.7 is BF245B17, k -1, r 3D51700F. By
+/// two products 0.3 cubed is 3CDD2F1C.
+fn powers() -> Vec<Case> {
+    let power = |(v, e): (f32, f32)| libm::powf(v, e);
+    let all = |v: f32, answer: u32| EXPONENTS.iter().all(|e| gives(power, &[((v, *e), answer)]));
+    let none = |v: &f32| EXPONENTS.iter().all(|e| libm::powf(*v, *e).is_nan());
+    let (below, above) = (2f32.next_down(), 2f32.next_up());
+    vec![
+        (
+            "0.001 to the power 1 = 3A83126E, not itself",
+            gives(power, &[((0.001, 1.0), 0x3A83_126E)]),
+        ),
+        (
+            "0.7 to the power 1.8 = 3F06B714",
+            gives(power, &[((0.7, 1.8), 0x3F06_B714)]),
+        ),
+        (
+            "0.3 to the power 3 = 3CDD2F1A, not its cube by products",
+            gives(power, &[((0.3, 3.0), 0x3CDD_2F1A)]),
+        ),
+        (
+            "0.7 to the powers next to 2: 3EFAE148, 3EFAE146",
+            gives(
+                power,
+                &[((0.7, below), 0x3EFA_E148), ((0.7, above), 0x3EFA_E146)],
+            ),
+        ),
+        ("1 to any power: 1", all(1.0, 0x3F80_0000)),
+        ("0 or -0 to any power: +0", all(0.0, 0) && all(-0.0, 0)),
+        (
+            "NaN, below 0 or above 1 to any power: NaN",
+            NO_SHARES.iter().all(none),
+        ),
+        (
+            "1e-13 to the power 3, the exponential of -89.8: 0",
+            gives(power, &[((1.0e-13, 3.0), 0)]),
+        ),
+    ]
+}
+
+/// The next float beyond either limit, a thousandth beyond, 0, both infinities and a NaN of each sign.
+const NO_EXPONENTS: [f32; 9] = [
+    1f32.next_down(),
+    0.999,
+    0.0,
+    3f32.next_up(),
+    3.001,
+    f32::NEG_INFINITY,
+    f32::INFINITY,
+    f32::NAN,
+    -f32::NAN,
+];
+
+/// The airframe with this exponent of its motors' thrust.
+pub fn with_exponent(mut block: AirframeBlock, exponent: f32) -> AirframeBlock {
+    block.numbers[35] = exponent;
+    block
+}
+
+fn exponents() -> Vec<Case> {
+    let block = |exponent: &f32| with_exponent(plain(), *exponent).bytes();
+    let ticked = |exponent: &f32, answer, place| {
+        let mut made = airframe_of(&plain());
+        made.numbers[35] = *exponent;
+        answered(&made, &at_rest(), &still(0.02), answer, place)
+    };
+    vec![
+        (
+            "exponents 1, 1.8, 3, 2 and its neighbours: 0",
+            EXPONENTS
+                .iter()
+                .all(|exponent| reads(&block(exponent), 0, 0)),
+        ),
+        (
+            "beyond 1 or 3, an infinity or NaN: 6, place 36",
+            NO_EXPONENTS
+                .iter()
+                .all(|exponent| reads(&block(exponent), 6, 36)),
+        ),
+        (
+            "a hand-made airframe's tick with the first: 0",
+            EXPONENTS.iter().all(|exponent| ticked(exponent, 0, 0)),
+        ),
+        (
+            "with the second: 6, place 36",
+            NO_EXPONENTS.iter().all(|exponent| ticked(exponent, 6, 36)),
+        ),
+    ]
+}
+
+/// A motor of 10 N on the plain airframe with this exponent, at rest.
+fn pull_by(exponent: f32, running: f32) -> f32 {
+    pull(&with_exponent(plain(), exponent), 1.0, running, 0.0)
+}
+
+/// A pull is 10 times a power of `powers`, rounded once more.
+fn pulls() -> Vec<Case> {
+    let by = |(exponent, running)| pull_by(exponent, running);
+    let square = |v: &f32| gives(by, &[((2.0, *v), (10.0 * (*v * *v)).to_bits())]);
+    let none = |exponent: &f32| pull_by(*exponent, 0.0) == 0.0 && pull_by(*exponent, -0.0) == 0.0;
+    let pitched = with_exponent(pitched(), 3.0);
+    vec![
+        (
+            "10 N, exponent 2: the square by its bits",
+            TURNING.iter().chain(&[0.1, 0.3, 0.7]).all(square),
+        ),
+        (
+            "10 N, running 0.001, exponent 1: 3C23D70A",
+            gives(by, &[((1.0, 0.001), 0x3C23_D70A)]),
+        ),
+        (
+            "10 N, running 0.7, exponents 1.8 and 3: 40A864D9, 405B851C",
+            gives(by, &[((1.8, 0.7), 0x40A8_64D9), ((3.0, 0.7), 0x405B_851C)]),
+        ),
+        (
+            "10 N, running 1: 10 N by any exponent",
+            EXPONENTS
+                .iter()
+                .all(|exponent| pull_by(*exponent, 1.0) == 10.0),
+        ),
+        (
+            "running 0 or -0: no thrust by any exponent",
+            EXPONENTS.iter().all(none),
+        ),
+        (
+            "running 1e-13: no thrust by 3, 15F79688 by 2",
+            gives(by, &[((3.0, 1.0e-13), 0), ((2.0, 1.0e-13), 0x15F7_9688)]),
+        ),
+        (
+            "running 1e-13 by 3, PitchSpeed 20: no thrust at 5 m/s and at rest",
+            [5.0, 0.0].map(|speed| pull(&pitched, 1.0, 1.0e-13, speed)) == [0.0; 2],
+        ),
     ]
 }
 

@@ -1,7 +1,7 @@
 //! Inputs of fly from a seed: airframes, states and ticks, plausible ones, ones at every limit,
 //! and damaged blocks.
 
-use crate::arguments::SPECIAL;
+use crate::arguments::{SPECIAL, TURNING, exponent};
 use crate::blocks::{
     AIRFRAME_NUMBERS, SLOTS, STATE_BYTES, State, TICK_BYTES, TICK_NUMBERS, UNSCALED_BYTES,
     WASH_NUMBERS, write_state,
@@ -100,7 +100,7 @@ const PLAUSIBLE: [Range; AIRFRAME_NUMBERS] = [
     (0.2, 0.8),
     (0.02, 0.3),
     (3.0, 60.0),
-    (2.0, 2.0),
+    (1.0, 3.0),
     (0.0, 0.6),
     (-0.1, 0.1),
     (0.02, 0.4),
@@ -231,6 +231,7 @@ pub fn airframe(rng: &mut Rng) -> AirframeBlock {
     if plausible && pitch_speed {
         numbers[36] = rng.between(12.0, 40.0);
     }
+    numbers[35] = exponent(rng);
     // A soft stall, so that both sides of the blend count.
     if plausible && rng.once_in(3) {
         numbers[10] = rng.between(0.0, 4.0);
@@ -289,12 +290,24 @@ pub fn scales(rng: &mut Rng) -> [f32; SLOTS] {
     running(rng, limits::SCALE)
 }
 
-/// A state within the envelope, as `state` gives them, with any thrust scales.
+/// Puts one running value in three at the edges of a power.
+pub fn put_at_edges(rng: &mut Rng, running: &mut [f32; SLOTS]) {
+    for value in running {
+        if rng.once_in(3) {
+            *value = rng.pick(&TURNING);
+        }
+    }
+}
+
+/// A state within the envelope, as `state` gives them, with any thrust scales, and with motors at the
+/// edges of a power.
 pub fn tired_state(rng: &mut Rng) -> State {
-    State {
+    let mut state = State {
         thrust_scale: scales(rng),
         ..state(rng)
-    }
+    };
+    put_at_edges(rng, &mut state.motors);
+    state
 }
 
 /// A state within the envelope: level, inverted, stalled, tail first, at rest, or at the edge. The

@@ -1,5 +1,5 @@
-//! Document 01's limits, and document 02's of the wind and the thrust scales. NaN is outside all of
-//! them; -0 is 0.
+//! Document 01's limits, and document 02's of the wind, the thrust scales and the thrust exponent. NaN
+//! is outside all of them; -0 is 0.
 
 /// Wrong length.
 pub const LENGTH: u8 = 1;
@@ -40,7 +40,7 @@ pub fn airframe(place: usize, pitch_speed: bool) -> Range {
         31..=33 => DEFLECTION,
         34 | 39 => TIME_CONSTANT,
         35 => (0.01, 10000.0),
-        36 => (2.0, 2.0),
+        36 => (1.0, 3.0),
         37 if pitch_speed => (0.1, 10000.0),
         37 => (0.0, 10000.0),
         38 => (-10.0, 10.0),

@@ -10,13 +10,15 @@ mod libm;
 mod modules;
 
 /// Every list: its file name and what makes its text.
-const LISTS: [(&str, fn() -> String); 18] = [
+const LISTS: [(&str, fn() -> String); 20] = [
     ("sqrtf.txt", libm::sqrtf),
     ("expf.txt", libm::expf),
     ("sinf.txt", libm::sinf),
     ("cosf.txt", libm::cosf),
     ("atan2f.txt", libm::atan2f),
     ("asinf.txt", libm::asinf),
+    ("logf.txt", libm::logf),
+    ("powf.txt", libm::powf),
     ("lag_factor.txt", modules::lag_factor),
     ("approach_saturated.txt", modules::approach_saturated),
     ("motors.txt", modules::motors),
@@ -50,8 +52,8 @@ pub fn write_all(folder: &Path) -> io::Result<()> {
 /// cases.
 fn list(words: &str, cases: Vec<String>) -> String {
     format!(
-        "# {words}. Made by differential/lists (the original Rust with document 01's stand-ins); \
-         compare as numbers: zeros alike, NaNs alike.\n{}\n",
+        "# {words}. Made by differential/lists (the original Rust with the stand-ins of documents 01 \
+         and 02); compare as numbers: zeros alike, NaNs alike.\n{}\n",
         cases.join("\n")
     )
 }

@@ -1,5 +1,6 @@
-//! Stands for the crate `libm`: the elementary functions as document 01 spells them. f32, one
-//! rounding for each operation, nothing fused, left to right.
+//! Stands for the crate `libm`: the elementary functions as document 01 spells them, the logarithm
+//! and the power as document 02 does. f32, one rounding for each operation, nothing fused, left to
+//! right.
 
 use core::f32::consts::{FRAC_PI_2, FRAC_PI_4, PI};
 
@@ -141,7 +142,61 @@ pub fn asinf(s: f32) -> f32 {
     atan2f(s, sqrtf((1.0 - s) * (1.0 + s)))
 }
 
-/// Never reached: 01 wants the thrust exponent exactly 2 and leaves out the knee.
-pub fn powf(_base: f32, _exponent: f32) -> f32 {
-    panic!("powf is outside document 01")
+/// The least m of a logarithm, and ln(2).
+const LEAST_M: f32 = 0.70710677;
+const LN_2: f32 = 0.6931472;
+
+/// m and n of `v` = m·2^n, for `v` above 0 and finite: m is at least its least and under the double of
+/// it. An f64 has room to double and halve every f32 exactly, a subnormal one too.
+fn m_and_n(v: f32) -> (f32, i32) {
+    let least = f64::from(LEAST_M);
+    let (mut m, mut n) = (f64::from(v), 0);
+    while m < least {
+        m *= 2.0;
+        n -= 1;
+    }
+    while m >= 2.0 * least {
+        m /= 2.0;
+        n += 1;
+    }
+    (m as f32, n)
+}
+
+/// ln `v`: minus infinity at 0, NaN below it.
+pub fn logf(v: f32) -> f32 {
+    if v.is_nan() || v < 0.0 {
+        return f32::NAN;
+    }
+    if v == 0.0 {
+        return f32::NEG_INFINITY;
+    }
+    if v == f32::INFINITY {
+        return v;
+    }
+    let (m, n) = m_and_n(v);
+    let s = (m - 1.0) / (m + 1.0);
+    let z = s * s;
+    let sum = 1.0 / 7.0 + z / 9.0;
+    let sum = 1.0 / 5.0 + z * sum;
+    let sum = 1.0 / 3.0 + z * sum;
+    let sum = 1.0 + z * sum;
+    2.0 * s * sum + n as f32 * LN_2
+}
+
+/// `v`, 0 to 1, to the power `e`, before the cap at 1; NaN for another `v`.
+pub fn uncapped_powf(v: f32, e: f32) -> f32 {
+    if v == 0.0 {
+        return 0.0;
+    }
+    if !(0.0..=1.0).contains(&v) {
+        return f32::NAN;
+    }
+    expf(e * logf(v))
+}
+
+/// `v`, 0 to 1, to the power `e`, at most 1; NaN for another `v`. For a motor's share with an exponent
+/// that is not 2; no knee is ever handed in, so that nothing else reaches it.
+pub fn powf(v: f32, e: f32) -> f32 {
+    let power = uncapped_powf(v, e);
+    if power > 1.0 { 1.0 } else { power }
 }

@@ -1,10 +1,10 @@
-//! Three airframes and their ticks: the samples' survey plane, the samples' tailsitter with wash
-//! and PitchSpeed, and the plane with 16 rows.
+//! Four airframes and their ticks: the samples' survey plane, the samples' tailsitter with wash and
+//! PitchSpeed, the plane with 16 rows, and the plane with a toroidal propeller's exponent.
 
 use std::fs;
 use std::path::Path;
 
-use bench::TICK_NUMBERS;
+use bench::{TICK_NUMBERS, place};
 use oracle::blocks::{HEADER_BYTES, Header, ROW_BYTES, STATE_BYTES};
 use oracle::rng::Rng;
 
@@ -25,11 +25,13 @@ impl Input {
     }
 }
 
-pub fn all(samples: &Path, ticks: usize) -> [Input; 3] {
-    let plane = input("plane", &samples.join("stalled_left.bin"), ticks);
-    let rows = with_16_rows(input("plane with 16 rows", &samples.join("stalled_left.bin"), ticks));
+pub fn all(samples: &Path, ticks: usize) -> [Input; 4] {
+    let sample = samples.join("stalled_left.bin");
+    let plane = input("plane", &sample, ticks);
+    let rows = with_16_rows(input("plane with 16 rows", &sample, ticks));
+    let toroidal = with_exponent(input("plane with the exponent 1.8", &sample, ticks), 1.8);
     let tailsitter = input("tailsitter", &samples.join("hover.bin"), ticks);
-    [plane, tailsitter, rows]
+    [plane, tailsitter, rows, toroidal]
 }
 
 fn input(name: &'static str, sample: &Path, ticks: usize) -> Input {
@@ -76,5 +78,12 @@ fn with_16_rows(mut input: Input) -> Input {
     }
     input.airframe.truncate(start + MOST_ROWS * ROW_BYTES);
     input.airframe[HEADER_BYTES - 1] = MOST_ROWS as u8;
+    input
+}
+
+/// The airframe with another exponent of its motors' thrust.
+fn with_exponent(mut input: Input, exponent: f32) -> Input {
+    let at = HEADER_BYTES + 4 * (place::THRUST_EXPONENT as usize - 1);
+    input.airframe[at..at + 4].copy_from_slice(&exponent.to_be_bytes());
     input
 }

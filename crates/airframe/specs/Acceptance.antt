@@ -60,7 +60,7 @@ limitsTable =
     range (neg (rounded 16 10)) (rounded 16 10) ∷  -- 33 max_deflection_rad, rudder
     range (rounded 1 1000) (rounded 10 1) ∷  -- 34 servo_time_constant_s
     range (rounded 1 100) (rounded 10000 1) ∷  -- 35 max_thrust_n
-    range (rounded 2 1) (rounded 2 1) ∷  -- 36 thrust_exponent
+    range (rounded 1 1) (rounded 3 1) ∷  -- 36 thrust_exponent
     range nought (rounded 10000 1) ∷  -- 37 thrust_falloff, Linear's
     range (neg (rounded 10 1)) (rounded 10 1) ∷  -- 38 thrust_line_below_cg_m
     range (rounded 1 1000) (rounded 10 1) ∷  -- 39 time_constant_s of the motors

@@ -82,7 +82,7 @@ pub const LIMITS: [Limits; NUMBERS] = [
     Limits(-1.6, 1.6), // 33 max_deflection_rad, rudder
     Limits(0.001, 10.0), // 34 servo_time_constant_s
     Limits(0.01, 10000.0), // 35 max_thrust_n
-    Limits(2.0, 2.0), // 36 thrust_exponent
+    Limits(1.0, 3.0), // 36 thrust_exponent
     Limits(0.0, 10000.0), // 37 thrust_falloff, Linear's
     Limits(-10.0, 10.0), // 38 thrust_line_below_cg_m
     Limits(0.001, 10.0), // 39 time_constant_s of the motors

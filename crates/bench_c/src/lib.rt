@@ -6,6 +6,8 @@ ghost use Prim.Native.Nat.{_≤_};
 ghost use Rattle.airframe_block.specs.Block.{readAirframeOf};
 ghost use Rattle.libm.specs.Atan.{atan2Of, asinOf};
 ghost use Rattle.libm.specs.Exp.{expOf};
+ghost use Rattle.libm.specs.Log.{lnOf};
+ghost use Rattle.libm.specs.Pow.{powOf};
 ghost use Rattle.libm.specs.Sqrt.{sqrtOf};
 ghost use Rattle.libm.specs.Trig.{sinOf, cosOf};
 ghost use Rattle.arrays.specs.Airframe.{airframeNumbersCount, airframeIn};
@@ -36,6 +38,20 @@ pub extern "C" fn bench_expf(x: f32) -> f32
     ensures { λ r. ⌜ r ≡ expOf x ⌝ }
 {
     libm::expf(x)
+}
+
+#[no_mangle]
+pub extern "C" fn bench_logf(v: f32) -> f32
+    ensures { λ r. ⌜ r ≡ lnOf v ⌝ }
+{
+    libm::logf(v)
+}
+
+#[no_mangle]
+pub extern "C" fn bench_powf(v: f32, e: f32) -> f32
+    ensures { λ r. ⌜ r ≡ powOf v e ⌝ }
+{
+    libm::powf(v, e)
 }
 
 #[no_mangle]

@@ -2,3 +2,4 @@
 pub mod Table
 pub mod Wide
 pub mod Wind
+pub mod Shares

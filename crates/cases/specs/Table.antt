@@ -27,7 +27,7 @@ pub record Case : Type 0 where
   pub value : Float
   pub bits : ℕ
 
-abbrev is : Float → ℕ → Case
+abbrev pub is : Float → ℕ → Case
 is v b = record { value = v; bits = b }
 
 -- sharpness 0, at an angle of attack of 0.5 and a stall angle of 0.25

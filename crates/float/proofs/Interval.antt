@@ -10,7 +10,7 @@ use native.Mathlib.Nat.{mul-pos}
 use native.Mathlib.Omega.{arith}
 use Rattle.float.proofs.Exact.{rounds-ge, rounds-le}
 use Rattle.float.proofs.Order.{Cross, finite-between, finite-number, le-self, le-trans-float, nn, not-lt→le, pp}
-use Rattle.float.proofs.Rounding.{add-mono-r, div-rounds, divide-mono, mul-anti-r, mul-mono-l, mul-mono-r, mul-rounds, no-minus, no-plus, pp-pos, sub-mono}
+use Rattle.float.proofs.Rounding.{add-mono-l, add-mono-r, div-rounds, divide-mono, mul-anti-r, mul-mono-l, mul-mono-r, mul-rounds, no-minus, no-plus, pp-pos, sub-mono}
 use Rattle.float.proofs.Zeros.{le-num}
 use Rattle.float.specs.Interval.{Within}
 use Rattle.float.specs.Notation.{clamp, nought}
@@ -42,6 +42,11 @@ pub add-in : (f : Format) (c lo hi x : Float) → T (finite c) → T (finite lo)
 add-in f c lo hi x p q r w =
     let z = within-finite lo hi x q r w in
     record { at-least = add-mono-r f c lo x p q z (w .at-least); at-most = add-mono-r f c x hi p z r (w .at-most) }
+
+pub plus-in : (f : Format) (c lo hi x : Float) → T (finite c) → T (finite lo) → T (finite hi) → Within lo hi x → Within (add f lo c) (add f hi c) (add f x c)
+plus-in f c lo hi x p q r w =
+    let z = within-finite lo hi x q r w in
+    record { at-least = add-mono-l f lo x c q z p (w .at-least); at-most = add-mono-l f x hi c z r p (w .at-most) }
 
 pub sub-in : (f : Format) (c lo hi x : Float) → T (finite c) → T (finite lo) → T (finite hi) → Within lo hi x → Within (sub f lo c) (sub f hi c) (sub f x c)
 sub-in f c lo hi x p q r w =

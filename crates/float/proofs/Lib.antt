@@ -13,5 +13,6 @@ pub mod Tests
 pub mod Mirror
 pub mod Patterns
 pub mod Integers
+pub mod Differences
 pub mod Bounds
 pub mod Held

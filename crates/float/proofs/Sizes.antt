@@ -77,10 +77,10 @@ scaled {n} {m} {x} {y} k h o s t =
     mul-in binary32 (neg a) a x b y (neg-finite a tt) tt tt (over-le a nought tt tt) (not-neg n) (s .within) (record { at-least = o; at-most = t .within .at-most }) in
     record { within = within-wider (mul binary32 (neg a) b) (mul binary32 a b) (neg (twoTo k)) (twoTo k) (mul binary32 x y) low h ends }
 
-turned : (x y : Float) → mul binary32 (neg x) (neg y) ≡ mul binary32 x y
+pub turned : (x y : Float) → mul binary32 (neg x) (neg y) ≡ mul binary32 x y
 turned x y = mul-neg-left binary32 x (neg y) ∙ ap neg (mul-neg-right binary32 x y) ∙ neg-neg (mul binary32 x y)
 
-above : (y : Float) → T (le y nought) → T (le nought (neg y))
+pub above : (y : Float) → T (le y nought) → T (le nought (neg y))
 unfolding num
 above y h = subst T (le-num (neg nought) nought (neg y) (neg y) (unfold neg in refl) refl) (le-neg y nought h)
 

@@ -1,15 +1,14 @@
 -- The places of the table of powers: what stands at each, at which of them an exponent's power stands, that exp reads each of them, and that exp answers what it did when the power was made from its bits. Assumes nothing.
 use Prim.Native.Nat.{_*_, _+_, _-_, _<_, suc, ℕ}
-use lib.Arith.{le→nltb, lt→nleb}
-use lib.Dec.{leb, leb→le, le→leb, ltb}
+use lib.Dec.{leb→le}
 use lib.Ieee.{Float, add, binary32, fin, le, lt, minus, mul, nan, neg, ofBits, ofInt, round, sub, toSigned}
-use lib.Ieee.Bits.{is-false, is-true}
 use lib.IntN.{_+ℤ_, natAbs, negsuc, pos, ℤ}
 use lib.ListN.{getD}
-use mathlib.Core.Bool.{Bool, cond, false, true}
+use mathlib.Core.Bool.{false, true}
 use mathlib.Core.Path.{_∙_, _≡_, ap, refl, sym}
 use native.Mathlib.Omega.{arith}
 use Rattle.float.proofs.Bounds.{inside-within}
+use Rattle.float.proofs.Differences.{minus-down, minus-up, sub-minus}
 use Rattle.float.proofs.Lists.{listOf-at, same-at}
 use Rattle.float.specs.Interval.{Within, inside}
 use Rattle.float.specs.Lists.{listFrom, listOf}
@@ -41,21 +40,15 @@ pub place : (k : ℤ) → Exponent k → Place k (k +ℤ pos 126)
 unfolding powerAt
 place (pos a) e =
     let b = leb→le a 127 (e .at-most) in
-    record {
-      i = a + 126;
-      is = refl;
-      below = omega arith;
-      power = ap (λ (z : ℤ). fin false 1 z) (ap (λ (t : Bool). cond t (pos (a + 126 - 126)) (negsuc (126 - suc (a + 126)))) (is-true (leb 126 (a + 126)) (le→leb 126 (a + 126) (omega arith))) ∙ ap pos (omega arith));
-      biased = omega arith;
-    }
+    record { i = a + 126; is = refl; below = omega arith; power = ap (λ (z : ℤ). fin false 1 z) (minus-up (a + 126) 126 (omega arith) ∙ ap pos {y = a} (omega arith)); biased = omega arith }
 place (negsuc a) e =
     let b = leb→le a 125 (e .at-least) in
     record {
       i = 126 - suc a;
-      is = ap (λ (t : Bool). cond t (negsuc (suc a - 127)) (pos (126 - suc a))) (is-false (ltb 126 (suc a)) (le→nltb 126 (suc a) (omega arith)));
+      is = sub-minus 126 (suc a) ∙ minus-up 126 (suc a) (omega arith);
       below = omega arith;
-      power = ap (λ (z : ℤ). fin false 1 z) (ap (λ (t : Bool). cond t (pos (126 - suc a - 126)) (negsuc (126 - suc (126 - suc a)))) (is-false (leb 126 (126 - suc a)) (lt→nleb 126 (126 - suc a) (omega arith))) ∙ ap negsuc (omega arith));
-      biased = ap (λ (t : Bool). natAbs (cond t (negsuc (suc a - 128)) (pos (127 - suc a)))) (is-false (ltb 127 (suc a)) (le→nltb 127 (suc a) (omega arith))) ∙ omega arith;
+      power = ap (λ (z : ℤ). fin false 1 z) (minus-down (126 - suc a) 126 (omega arith) ∙ ap negsuc {y = a} (omega arith));
+      biased = ap natAbs (sub-minus 127 (suc a) ∙ minus-up 127 (suc a) (omega arith)) ∙ omega arith;
     }
 
 -- ---- exp reads each place: at (i - 126) * ln 2, held within -87 and 88, it has i - 126 turns

@@ -1,5 +1,5 @@
--- What the code's promises name besides the definitions. Nothing here needs believing: `proofs/Turns` and `proofs/Quarters` say in
--- terms of the definitions what each of them is.
+-- What the code's promises name besides the definitions. Nothing here needs believing: `proofs/Turns`, `proofs/Splits` and
+-- `proofs/Quarters` say in terms of the definitions what each of them is.
 use lib.Dec.{T}
 use lib.Ieee.{Float, eq, le, neg}
 use lib.IntN.{negsuc, pos, ℤ}
@@ -9,6 +9,7 @@ use mathlib.Core.Path.{_≡_}
 use Rattle.float.specs.Notation.{_⊕_, _⊖_, _⊗_, half, nought, one, rounded, two}
 use Rattle.float.specs.Contracts.{wholePart}
 use Rattle.libm.specs.Exp.{turns}
+use Rattle.libm.specs.Log.{exponentOf, mantissaOf}
 use Rattle.libm.specs.Trig.{cosNear, quarterTurn, sinNear}
 
 -- ---- exp: the turns of an x from -87 to 88 are an exponent from -126 to 127
@@ -19,6 +20,16 @@ pub record Exponent (k : ℤ) : Type 0 where
 pub record Turned (x : Float) (k : ℤ) : Type 0 where
   pub is : k ≡ turns x
   pub in-range : Exponent k
+
+-- ---- ln: the exponent of a number above 0 is from -149 to 128
+pub record Binary (n : ℤ) : Type 0 where
+  pub at-least : T (leZ (negsuc 148) n)
+  pub at-most : T (leZ n (pos 128))
+
+pub record SplitOf (v m : Float) (n : ℤ) : Type 0 where
+  pub is-mantissa : m ≡ mantissaOf v
+  pub is-exponent : n ≡ exponentOf v
+  pub in-range : Binary n
 
 -- ---- sin and cos: the quarter turns as the code holds them, a float that is a whole number
 unfoldable pub wholeQuarters : Float → Float

@@ -1,4 +1,6 @@
 -- Laws of the motors.
 pub mod Range
 pub mod Mirror
+pub mod Pulls
 pub mod Scales
+pub mod Shares

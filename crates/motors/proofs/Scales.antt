@@ -8,8 +8,8 @@ use Rattle.fixed_wing.specs.Falloff.{falloffShare}
 use Rattle.fixed_wing.specs.declared.ThrustFalloff.{ThrustFalloff}
 use Rattle.float.proofs.Exact.{one-times}
 use Rattle.float.specs.Notation.{_⊗_, one}
-use Rattle.mixers.specs.Slots.{at, sumTo, vecAt, vecSumTo}
-use Rattle.vector.specs.Vector.{scaleOf}
+use Rattle.mixers.specs.Slots.{at, sumTo, vecSumTo}
+use Rattle.motors.proofs.Pulls.{pullBy}
 use Rattle.motors.specs.Motor.{slotThrust, slotTorque, thrustFraction, thrustOf, wrenchWith}
 use Rattle.motors.specs.declared.MotorLayout.{MotorLayout}
 use Rattle.motors.specs.declared.MotorWrench.{MotorWrench}
@@ -23,9 +23,7 @@ builtThrust l falloff u running =
 
 -- and of a group
 abbrev pub builtPull : Motors → ThrustFalloff → Float → MotorWrench
-builtPull m falloff u =
-    let thrust : ℕ → Float = λ k. builtThrust (m .group .layout) falloff u (at (m .running) k) in
-    record { «thrust_n» = sumTo thrust 8; «torque_nm» = vecSumTo (λ (k : ℕ). scaleOf (vecAt (m .group .«torque_per_thrust_m») k) (thrust k)) 8 }
+builtPull m falloff u = pullBy m (λ (k : ℕ). builtThrust (m .group .layout) falloff u (at (m .running) k))
 
 -- the most thrust being a 32-bit float, as its type tells
 pub as-built : (l : MotorLayout) (falloff : ThrustFalloff) (u running : Float) → T (fits binary32 (l .«max_thrust_n»)) → thrustOf l falloff u one running ≡ builtThrust l falloff u running

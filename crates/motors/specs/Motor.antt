@@ -2,14 +2,15 @@
 use Prim.Native.Nat.{ℕ}
 use denote.Index.{row}
 use lib.Dec.{ltb}
-use lib.Ieee.{Float}
+use lib.Ieee.{Float, eq}
 use lib.ListN.{replicate, set}
 use mathlib.Core.Bool.{Bool, cond, false, true}
 use mathlib.Core.List.{List}
 use Rattle.fixed_wing.specs.Falloff.{falloffShare}
 use Rattle.fixed_wing.specs.declared.ThrustFalloff.{ThrustFalloff}
-use Rattle.float.specs.Notation.{_⊗_, nought, one}
+use Rattle.float.specs.Notation.{_⊗_, nought, one, two}
 use Rattle.lag.specs.Lag.{approachSaturated, factorOf}
+use Rattle.libm.specs.Pow.{powOf}
 use Rattle.mixers.specs.Rows.{liveOf, putTo}
 use Rattle.mixers.specs.Slots.{at, flagAt, slots, sumTo, vecAt, vecSumTo}
 use Rattle.mixers.specs.declared.MixRow.{MixRow}
@@ -78,9 +79,9 @@ spinOf m commands factor = record {
   «thrust_scale» = m .«thrust_scale»;
 }
 
--- ---- thrust and torque. The exponent is 2, so a share is a square
+-- ---- thrust and torque. A share is a power of the running value (02, 4), with the exponent 2 its square
 unfoldable pub thrustFraction : Float → Float → Float
-thrustFraction running exponent = running ⊗ running
+thrustFraction running exponent = cond (eq exponent two) (running ⊗ running) (powOf running exponent)
 
 -- thrust_scale · max · share · falloff, from the left; the falloff is of the share before it is scaled (02, 2)
 unfoldable pub thrustOf : MotorLayout → ThrustFalloff → Float → Float → Float → Float

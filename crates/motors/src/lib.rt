@@ -140,7 +140,13 @@ impl Motors {
     }
 
     // Used or not, all 8 slots pull by their running values and scales, less what `falloff` takes at the forward airspeed.
-    pub fn wrench_with(self, falloff: ThrustFalloff, airspeed_mps: f32) -> MotorWrench
+    pub fn wrench_with(
+        self,
+        falloff: ThrustFalloff,
+        airspeed_mps: f32,
+        powers: &[f32; POWER_COUNT],
+    ) -> MotorWrench
+        requires { ⌜ now powers ≡ powersOfTwo ⌝ }
         ensures { λ r. ⌜ r ≡ Motor.wrenchWith self falloff «airspeed_mps» ⌝ }
     {
         let group = self.group;
@@ -152,7 +158,13 @@ impl Motors {
         let mut i = 0usize;
         while i < 8 {
             let layout = group.layout;
-            let one_n = layout.motor_thrust_n(thrust_scale[i], running[i], falloff, airspeed_mps);
+            let one_n = layout.motor_thrust_n(
+                thrust_scale[i],
+                running[i],
+                falloff,
+                airspeed_mps,
+                powers,
+            );
             thrust_n = thrust_n + one_n;
             torque_nm = torque_nm.add(torques[i].scale(one_n));
             i += 1;
@@ -183,11 +195,13 @@ impl MotorLayout {
         running: f32,
         falloff: ThrustFalloff,
         airspeed_mps: f32,
+        powers: &[f32; POWER_COUNT],
     ) -> f32
+        requires { ⌜ now powers ≡ powersOfTwo ⌝ }
         ensures { λ r. ⌜ r ≡ Motor.thrustOf self falloff «airspeed_mps» scale running ⌝ }
     {
         let max_thrust_n = self.max_thrust_n;
-        let share = thrust_fraction(running, self.thrust_exponent);
+        let share = thrust_fraction(running, self.thrust_exponent, powers);
         scale * max_thrust_n * share * falloff.falloff_share(max_thrust_n, share, airspeed_mps)
     }
 }
@@ -202,9 +216,13 @@ fn spun(used: bool, running: f32, command: f32, factor: f32) -> f32
     running
 }
 
-// share_k of module 2; the exponent is always 2.
-pub fn thrust_fraction(running: f32, thrust_exponent: f32) -> f32
+// share_k of module 2, the running value to the power of the exponent (02, 4); the exponent 2 is a square.
+pub fn thrust_fraction(running: f32, thrust_exponent: f32, powers: &[f32; POWER_COUNT]) -> f32
+    requires { ⌜ now powers ≡ powersOfTwo ⌝ }
     ensures { λ r. ⌜ r ≡ Motor.thrustFraction running «thrust_exponent» ⌝ }
 {
-    running * running
+    if thrust_exponent == 2.0 {
+        return running * running;
+    }
+    libm::powf_with(running, thrust_exponent, powers)
 }

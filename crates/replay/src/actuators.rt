@@ -46,7 +46,6 @@ fn put_vectors(out: &mut [u32; 64], i: usize, vs: [Vec3; 8])
 // 8 flags, each a word that is 0 or 1.
 fn flags(w: &[u32; 192]) -> [bool; 8] {
     [
-        w[5] != 0,
         w[6] != 0,
         w[7] != 0,
         w[8] != 0,
@@ -54,26 +53,27 @@ fn flags(w: &[u32; 192]) -> [bool; 8] {
         w[10] != 0,
         w[11] != 0,
         w[12] != 0,
+        w[13] != 0,
     ]
 }
 
 pub fn motors(w: &[u32; 192], inputs: usize, out: &mut [u32; 64]) -> usize
     ensures { λ n. ⌜ n ≤ 64 ⌝ }
 {
-    if inputs != 61 {
+    if inputs != 62 {
         return 0;
     }
     let falloff = modules::falloff(w[0], numbers::number(w, 1));
     let used = flags(w);
-    let torque_per_thrust_m = vectors(w, 13);
-    let running = numbers::eight(w, 37);
-    let thrust_scale = numbers::eight(w, 45);
-    let commands = numbers::eight(w, 53);
+    let torque_per_thrust_m = vectors(w, 14);
+    let running = numbers::eight(w, 38);
+    let thrust_scale = numbers::eight(w, 46);
+    let commands = numbers::eight(w, 54);
     let layout = MotorLayout {
         moment_arm_m: 0.0,
         yaw_torque_per_thrust_m: 0.0,
         max_thrust_n: numbers::number(w, 2),
-        thrust_exponent: 2.0,
+        thrust_exponent: numbers::number(w, 3),
     };
     let group = MotorGroup {
         layout,
@@ -86,8 +86,9 @@ pub fn motors(w: &[u32; 192], inputs: usize, out: &mut [u32; 64]) -> usize
         running,
         thrust_scale,
     };
-    let spun = motors.spin(commands, numbers::number(w, 4));
-    let pull = spun.wrench_with(falloff, numbers::number(w, 3));
+    let spun = motors.spin(commands, numbers::number(w, 5));
+    let powers = libm::powers_of_two();
+    let pull = spun.wrench_with(falloff, numbers::number(w, 4), &powers);
     let after = spun.running;
     numbers::put_eight(out, 0, after);
     numbers::put(out, 8, pull.thrust_n);

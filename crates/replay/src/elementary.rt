@@ -50,3 +50,17 @@ pub fn atan2f(w: &[u32; 192], inputs: usize, out: &mut [u32; 64]) -> usize
     let x = float::from_bits(w[1]);
     one(inputs, 2, libm::atan2f(y, x), out)
 }
+
+pub fn logf(w: &[u32; 192], inputs: usize, out: &mut [u32; 64]) -> usize
+    ensures { λ n. ⌜ n ≤ 64 ⌝ }
+{
+    one(inputs, 1, libm::logf(float::from_bits(w[0])), out)
+}
+
+pub fn powf(w: &[u32; 192], inputs: usize, out: &mut [u32; 64]) -> usize
+    ensures { λ n. ⌜ n ≤ 64 ⌝ }
+{
+    let v = float::from_bits(w[0]);
+    let e = float::from_bits(w[1]);
+    one(inputs, 2, libm::powf(v, e), out)
+}

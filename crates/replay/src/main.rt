@@ -101,6 +101,8 @@ fn main() {
     run(b"cosf", b"cosf.txt", List::Cosf, &mut buf);
     run(b"asinf", b"asinf.txt", List::Asinf, &mut buf);
     run(b"atan2f", b"atan2f.txt", List::Atan2f, &mut buf);
+    run(b"logf", b"logf.txt", List::Logf, &mut buf);
+    run(b"powf", b"powf.txt", List::Powf, &mut buf);
     run(b"lag_factor", b"lag_factor.txt", List::LagFactor, &mut buf);
     run(
         b"approach_saturated",

@@ -5,4 +5,6 @@ pub mod Range
 pub mod Wind
 pub mod Mirror
 pub mod Steps
+pub mod Pulls
 pub mod Scales
+pub mod Shares

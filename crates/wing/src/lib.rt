@@ -237,7 +237,7 @@ pub fn loads(
         wind_ned_mps,
     ));
     let falloff = m.thrust_falloff;
-    let pull = motors.wrench_with(falloff, air_mps.x);
+    let pull = motors.wrench_with(falloff, air_mps.x, powers);
     let wash = wash_of(a, pull.thrust_n, air_mps.x, density_kgpm3);
     let deflection_rad = surfaces.deflection_rad(m.max_deflection_rad);
     let aero = aero::wrench(

@@ -1,6 +1,6 @@
 //! What the library's comparison counts.
 
-use oracle::blocks::SLOTS;
+use oracle::blocks::{SLOTS, State};
 use oracle::limits;
 use oracle::rows::TickRow;
 use oracle::tick::Report;
@@ -30,6 +30,10 @@ pub struct Figures {
     pub tired: [u64; 11],
     pub at_edge: [u64; 11],
     pub out_of_scale: [u64; 11],
+    /// How many of those with a thrust exponent that is not 2 did; and how many of the accepted among
+    /// them have a motor that runs and whose share is 0.
+    pub off_square: [u64; 11],
+    pub faint: u64,
     pub runs: u64,
     pub run_ticks: u64,
     pub pairs: u64,
@@ -43,7 +47,9 @@ impl Figures {
         self.flights + self.damaged + self.hand_made
     }
 
-    pub fn ticked(&mut self, report: &Report, scales: &[f32; SLOTS], tick: &TickRow) {
+    /// Counts a tick of an airframe with this exponent, which hands back `next`: there its thrust scales
+    /// are, and the running values that its thrust is by.
+    pub fn ticked(&mut self, report: &Report, exponent: f32, next: &State, tick: &TickRow) {
         let answer = usize::from(report.answer);
         let wind = [tick[1], tick[2], tick[3]];
         self.ticks += 1;
@@ -53,7 +59,12 @@ impl Figures {
         } else if wind.iter().any(|x| x.abs() > STRONG_MPS) {
             self.in_strong[answer] += 1;
         }
-        self.scaled(answer, scales);
+        self.scaled(answer, &next.thrust_scale);
+        if exponent != 2.0 {
+            self.off_square[answer] += 1;
+            let faint = |v: &f32| *v > 0.0 && libm::powf(*v, exponent) == 0.0;
+            self.faint += u64::from(answer == 0 && next.motors.iter().any(faint));
+        }
     }
 
     fn scaled(&mut self, answer: usize, scales: &[f32; SLOTS]) {
@@ -91,6 +102,12 @@ impl Figures {
             by_number(&self.tired, 0),
             by_number(&self.at_edge, 0),
             by_number(&self.out_of_scale, 0)
+        );
+        println!(
+            "library: with a thrust exponent that is not 2, by number {}; accepted with a motor that runs \
+             and has a share of 0, {}",
+            by_number(&self.off_square, 0),
+            self.faint
         );
         println!(
             "library: {} runs and {} mirrored pairs of {} ticks, {} blocks, {} rows of another length",

@@ -24,6 +24,8 @@ const STATE_AT: usize = AIRFRAME_ROW;
 const TICK_AT: usize = STATE_AT + STATE_NUMBERS;
 const NUMBERS: usize = TICK_AT + TICK_NUMBERS;
 const TICKS: usize = 8;
+/// Where the thrust exponent stands in the airframe's numbers, place 36.
+const EXPONENT_AT: usize = 35;
 
 type Case = [f32; NUMBERS];
 
@@ -119,8 +121,8 @@ pub fn differing(seed: u64, figures: &mut Figures) -> Option<Vec<f32>> {
     for _ in 0..TICKS {
         next_tick(rng, &mut case[TICK_AT..]);
         let (report, next) = expected(&case);
-        let scales = part(&case, STATE_AT + SCALES_AT);
-        figures.ticked(&report, &scales, &part(&case, TICK_AT));
+        let (exponent, next_state) = (case[EXPONENT_AT], state_of(&next));
+        figures.ticked(&report, exponent, &next_state, &part(&case, TICK_AT));
         if differs(&case, &report, &next) {
             return Some(case.to_vec());
         }

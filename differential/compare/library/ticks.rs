@@ -92,12 +92,13 @@ pub fn fly(input: &Input, figures: &mut Figures) -> Option<Flown> {
     let mut by_block = Side::new(input.start_row());
     let mut by_row = Side::new(input.start_row());
     let one_more = read.is_err().then_some(CALM);
+    let exponent = read.as_ref().map_or(2.0, |airframe| airframe.at(36));
     for row in input.ticks().chain(one_more) {
         let one = expected(&read, &state, &row);
         let other = expected_prepared(&read, &one, &state, &row);
         by_block.call(|state, report| raw::tick(input.airframe, state, &row, report));
         by_row.call(|state, report| raw::tick_prepared(&prepared, state, &row, report));
-        figures.ticked(&one.0, &state.thrust_scale, &row);
+        figures.ticked(&one.0, exponent, &one.1, &row);
         let next = state_row(&one.1);
         if !by_block.gave(&one.0, &next) || !by_row.gave(&other.0, &next) {
             return None;

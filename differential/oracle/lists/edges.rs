@@ -1,6 +1,7 @@
 //! Inputs of fly at every limit: each number just inside and just outside its range, each
 //! header bit, each length around each boundary.
 
+use crate::arguments::{EXPONENTS, TURNING};
 use crate::blocks::{SLOTS, STATE_NUMBERS, State, TICK_NUMBERS};
 use crate::hand;
 use crate::inputs::{AirframeBlock, Row, push, state_bytes};
@@ -22,6 +23,8 @@ pub fn all() -> Vec<Vec<u8>> {
         refused_scales(),
         scales(),
         vec![lopsided()],
+        exponents(),
+        faint(),
     ]
     .concat()
 }
@@ -265,6 +268,16 @@ fn refused_scales() -> Vec<Vec<u8>> {
     states.iter().map(flight).collect()
 }
 
+/// The plain airframe whose thrust falls off by PitchSpeed, or else by Linear.
+fn with_falloff(pitch_speed: bool) -> AirframeBlock {
+    if pitch_speed {
+        return hand::pitched();
+    }
+    let mut block = hand::plain();
+    block.numbers[36] = 0.01;
+    block
+}
+
 /// Flights of motors in all slots, each with a torque of its own: in each slot every limit of a
 /// thrust scale once, beside the others in the other slots. Every other motor runs without a row.
 fn scales() -> Vec<Vec<u8>> {
@@ -275,9 +288,7 @@ fn scales() -> Vec<Vec<u8>> {
     };
     let mut flights = Vec::new();
     for first in 0..SLOTS {
-        let mut block = hand::plain();
-        block.pitch_speed = first % 2 == 1;
-        block.numbers[36] = if block.pitch_speed { 20.0 } else { 0.01 };
+        let mut block = with_falloff(first % 2 == 1);
         block.rows = (0..SLOTS as u8)
             .skip(first % 2)
             .step_by(2)
@@ -297,6 +308,39 @@ fn scales() -> Vec<Vec<u8>> {
 fn lopsided() -> Vec<u8> {
     let (block, state) = hand::lopsided();
     powered(&block, &state, 8)
+}
+
+/// A flight by each exponent and each falloff: motors that no row names, which keep running values at
+/// the edges of a power.
+fn exponents() -> Vec<Vec<u8>> {
+    let mut state = hand::at_rest();
+    state.velocity = [5.0, 0.0, 0.0];
+    state
+        .motors
+        .copy_from_slice(&TURNING[TURNING.len() - SLOTS..]);
+    let flight = |exponent| {
+        [false, true].map(|pitch_speed| {
+            let block = hand::with_exponent(with_falloff(pitch_speed), exponent);
+            powered(&block, &state, 2)
+        })
+    };
+    EXPONENTS.into_iter().flat_map(flight).collect()
+}
+
+/// A motor that runs, though its share by the exponent 3 is 0: with PitchSpeed, in air that comes from
+/// ahead and in still air; and by the exponent 2 in still air, where it pulls.
+fn faint() -> Vec<Vec<u8>> {
+    let mut state = hand::at_rest();
+    state.motors[5] = 1.0e-13;
+    let flight = |exponent, wind_north| {
+        let mut bytes = hand::with_exponent(hand::pitched(), exponent).bytes();
+        bytes.extend(state_bytes(&state));
+        let mut tick = still(1.0 / 64.0);
+        tick[1] = wind_north;
+        push(&mut bytes, &tick);
+        bytes
+    };
+    vec![flight(3.0, -5.0), flight(3.0, 0.0), flight(2.0, 0.0)]
 }
 
 /// A flight of ticks of 1/64 s with all motors at half command.

@@ -9,7 +9,7 @@ use crate::words::hex;
 pub fn flights() -> String {
     let mut text = String::from(
         "# flights: after `< ` the input of fly in hex, after each `> ` a line it prints. Made by \
-         differential/lists (the original Rust with document 01's stand-ins).\n",
+         differential/lists (the original Rust with the stand-ins of documents 01 and 02).\n",
     );
     let mut rng = Rng::new(31);
     let mut all = edges::all();

@@ -18,6 +18,21 @@ fn unary(name: &str, how: &str, f: fn(f32) -> f32, fixed: Vec<f32>, limit: f32) 
     text
 }
 
+/// The list of a function of two numbers, which `words` names.
+fn binary(
+    words: &str,
+    how: &str,
+    f: fn(f32, f32) -> f32,
+    arguments: impl Iterator<Item = (f32, f32)>,
+) -> String {
+    let mut text = format!("# {words} > answer. Made by differential/lists ({how}); {HOW}\n");
+    for (x, y) in arguments {
+        text += &case(&[x, y], &[f(x, y)]);
+        text.push('\n');
+    }
+    text
+}
+
 pub fn sqrtf() -> String {
     let fixed = arguments::for_sqrt();
     unary("sqrtf", "hardware square root", libm::sqrtf, fixed, 1000.0)
@@ -54,14 +69,25 @@ pub fn asinf() -> String {
 }
 
 pub fn atan2f() -> String {
-    let mut text = format!(
-        "# atan2f: y x > answer. Made by differential/lists (document 01's formula); {HOW}\n"
-    );
     let mut rng = Rng::new(2);
     let random = (0..200).map(|_| arguments::random_pair(&mut rng));
-    for (y, x) in arguments::for_atan2().into_iter().chain(random) {
-        text += &case(&[y, x], &[libm::atan2f(y, x)]);
-        text.push('\n');
-    }
-    text
+    let all = arguments::for_atan2().into_iter().chain(random);
+    binary("atan2f: y x", "document 01's formula", libm::atan2f, all)
+}
+
+pub fn logf() -> String {
+    let fixed = arguments::for_log();
+    unary("logf", "document 02's formula", libm::logf, fixed, 4.0)
+}
+
+pub fn powf() -> String {
+    let mut rng = Rng::new(3);
+    let random = (0..200).map(|_| arguments::random_power(&mut rng));
+    let all = arguments::for_pow().into_iter().chain(random);
+    binary(
+        "powf: v e",
+        "document 02's power, at most 1",
+        libm::powf,
+        all,
+    )
 }

@@ -5,7 +5,7 @@ use stable_flight::mixers::{MixRow, Slot};
 
 use super::list;
 use crate::aero::{self, Wash};
-use crate::arguments::SPECIAL;
+use crate::arguments::{EXPONENTS, SPECIAL};
 use crate::blocks::{Airframe, SLOTS, State, layout, mix};
 use crate::body::{Body, Loads, MassProperties};
 use crate::hand;
@@ -134,16 +134,30 @@ fn prop(rng: &mut Rng) -> (bool, f32, f32) {
 
 pub fn motors() -> String {
     let mut rng = Rng::new(13);
-    let cases = (0..140).map(|_| motors_case(&mut rng)).collect();
+    let mut cases: Vec<String> = (0..140)
+        .map(|_| motors_case(&mut rng, 2.0, false))
+        .collect();
+    for exponent in EXPONENTS {
+        cases.extend((0..16).map(|_| motors_case(&mut rng, exponent, true)));
+    }
     list(
-        "motors: falloff kind (0 Linear, 1 PitchSpeed), falloff number, max thrust, air speed, \
-         factor, used 8 (0 or 1), torques 8 x 3, running 8, thrust scales 8, commands 8 > \
+        "motors: falloff kind (0 Linear, 1 PitchSpeed), falloff number, max thrust, exponent, air \
+         speed, factor, used 8 (0 or 1), torques 8 x 3, running 8, thrust scales 8, commands 8 > \
          running 8, thrust, torque 3",
         cases,
     )
 }
 
-fn motors_case(rng: &mut Rng) -> String {
+/// Puts running values at the edges of a power; one time in four one is none at all.
+fn put_at_edges(rng: &mut Rng, running: &mut [f32; SLOTS]) {
+    inputs::put_at_edges(rng, running);
+    if rng.once_in(4) {
+        running[rng.below(SLOTS)] = rng.pick(&[f32::NAN, 1.5, -0.5, f32::INFINITY]);
+    }
+}
+
+/// A case of motors with this exponent, their running values at its edges where `edged`.
+fn motors_case(rng: &mut Rng, exponent: f32, edged: bool) -> String {
     let (pitch_speed, number, max_thrust) = prop(rng);
     let wild = rng.once_in(4);
     let speed = mostly(rng, -5.0, 30.0);
@@ -154,18 +168,22 @@ fn motors_case(rng: &mut Rng) -> String {
     };
     let used: [bool; SLOTS] = core::array::from_fn(|_| !rng.once_in(3));
     let torques: [f32; 24] = core::array::from_fn(|_| finite(rng, -1.0, 1.0));
-    let running: [f32; SLOTS] = if wild {
+    let mut running: [f32; SLOTS] = if wild {
         some(rng, 0.0, 1.0)
     } else {
         core::array::from_fn(|_| rng.between(0.0, 1.0))
     };
+    if edged {
+        put_at_edges(rng, &mut running);
+    }
     let scales: [f32; SLOTS] = if wild {
         some(rng, 0.0, 1.0)
     } else {
         inputs::scales(rng)
     };
     let commands: [f32; SLOTS] = some(rng, 0.0, 1.0);
-    let airframe = powered(pitch_speed, number, max_thrust);
+    let mut airframe = powered(pitch_speed, number, max_thrust);
+    airframe.numbers[35] = exponent;
     let model = model(&airframe);
     let mut motors = Motors::new(&[], &layout(&airframe));
     motors.set_slots(used, vectors(&torques));
@@ -177,6 +195,7 @@ fn motors_case(rng: &mut Rng) -> String {
         whole(usize::from(pitch_speed)),
         number,
         max_thrust,
+        exponent,
         speed,
         factor,
     ];

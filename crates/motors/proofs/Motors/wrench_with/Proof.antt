@@ -13,12 +13,12 @@ use Rattle.motors.proofs.Motors.wrench_with.Statement.{statement}
 use Rattle.motors.proofs.Motors.wrench_with.Tie as tie
 
 abbrev Inv-loop : tie.InvT-loop
-Inv-loop falloff airspeed-mps group running thrust-scale torques thrust-n₀ torque-nm₀ i₀ thrust-n torque-nm i =
+Inv-loop falloff airspeed-mps powers group running thrust-scale torques thrust-n₀ torque-nm₀ i₀ thrust-n torque-nm i =
     let m : Motors = record { group = group; running = running; «thrust_scale» = thrust-scale } in
     (i ≤ 8) × (thrust-n ≡ sumTo (slotThrust m falloff airspeed-mps) i) × (torque-nm ≡ vecSumTo (slotTorque m falloff airspeed-mps) i)
 
 abbrev μ-loop : tie.MeasureT-loop
-μ-loop falloff airspeed-mps group running thrust-scale torques thrust-n₀ torque-nm₀ i₀ thrust-n torque-nm i = 8 - i
+μ-loop falloff airspeed-mps powers group running thrust-scale torques thrust-n₀ torque-nm₀ i₀ thrust-n torque-nm i = 8 - i
 
 zeros-requires : tie.Need-zeros-requires Inv-loop μ-loop
 zeros-requires c κs = search needs

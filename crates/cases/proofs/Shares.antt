@@ -1,0 +1,20 @@
+-- Every share of the table has its bits: computed. Assumes nothing.
+use lib.Dec.{T}
+use lib.Ieee.{add, div, eq, le, lt, mul, ne, neg, ofBits, ofInt, round, size, sub, toBits, toSigned}
+use Rattle.fixed_wing.specs.Falloff.{falloffShare, pitchSpeedShare}
+use Rattle.float.specs.Interval.{inside}
+use Rattle.float.specs.Notation.{atLeastZero}
+use Rattle.float.specs.Same.{num}
+use Rattle.libm.specs.Exp as Exp
+use Rattle.libm.specs.Exp.{core, expOf, horner, near-down, near-up, poly, rest, turns}
+use Rattle.libm.specs.Log as Log
+use Rattle.libm.specs.Log.{exponentOf, lnNear, lnOf, lnOfParts, mantissaOf, places, ratio}
+use Rattle.libm.specs.Pow.{atMostOne, powOf}
+use Rattle.libm.specs.Sqrt.{sqrtOf}
+use Rattle.motors.specs.Motor.{thrustFraction}
+use Rattle.cases.specs.Shares.{shares}
+use Rattle.cases.specs.Table.{allHold, holds}
+
+pub shares-hold : T (allHold shares)
+unfolding allHold holds shares num toBits thrustFraction falloffShare pitchSpeedShare atLeastZero powOf atMostOne inside expOf core poly Exp.series horner rest turns near-up near-down lnOf lnOfParts lnNear Log.series ratio mantissaOf exponentOf places sqrtOf add sub mul div neg lt le eq ne round ofBits ofInt toSigned size
+shares-hold = tt

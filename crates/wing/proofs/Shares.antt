@@ -1,0 +1,29 @@
+-- The shares of full thrust in a tick (02, 4): each lies from 0 to 1, and with the exponent 2 a tick is that of the running values' squares, as it was. Assumes nothing.
+use Prim.Native.Nat.{_<_, ℕ}
+use lib.Ieee.{eq}
+use mathlib.Core.Bool.{true}
+use mathlib.Core.Path.{_≡_}
+use Rattle.airframe.proofs.Range.{exponent-in}
+use Rattle.airframe.specs.Acceptance.{refusedPlace}
+use Rattle.airframe.specs.declared.Airframe.{Airframe}
+use Rattle.flight.specs.declared.Flight.{Flight}
+use Rattle.flight.specs.declared.Tick.{Tick}
+use Rattle.float.specs.Interval.{Within}
+use Rattle.float.specs.Notation.{nought, one, two}
+use Rattle.mixers.specs.Slots.{at}
+use Rattle.motors.proofs.Shares.{pull-as-square, share-in, squarePull}
+use Rattle.motors.specs.Motor.{spinOf, thrustFraction}
+use Rattle.wing.proofs.Pulls.{tick-under, tickUnder}
+use Rattle.wing.proofs.Running.{Held, Running}
+use Rattle.wing.specs.Loads.{airOf, motorsFor}
+use Rattle.wing.specs.Tick.{spunOf, tickOf}
+
+-- ---- of an accepted airframe, at running values in their ranges, as every tick of a run has them
+pub shares-in : (a : Airframe) (f : Flight) → refusedPlace a ≡ 0 → Held f → Running f → (k : ℕ) → k < 8 → Within nought one (thrustFraction (at (f .motors) k) (a .motors .layout .«thrust_exponent»))
+shares-in a f e g r k l = share-in (at (f .motors) k) (a .motors .layout .«thrust_exponent») (g .motors .motor k l) (r .motors .motor k l) (exponent-in a e)
+
+-- ---- the exponent 2
+pub tick-as-square : (a : Airframe) (f : Flight) (t : Tick) → eq (a .motors .layout .«thrust_exponent») two ≡ true
+    → tickOf a f t ≡ tickUnder a f t (squarePull (spunOf a f (t .motors) (t .«step_s»)) (a .model .«thrust_falloff») (airOf (f .body) (t .«wind_ned_mps») .x))
+unfolding spunOf spinOf motorsFor
+tick-as-square a f t e = tick-under a f t (pull-as-square (spunOf a f (t .motors) (t .«step_s»)) (a .model .«thrust_falloff») (airOf (f .body) (t .«wind_ned_mps») .x) e)
