@@ -14,13 +14,15 @@ use std::fmt;
 include!("lengths.rs");
 
 /// In order: position and velocity (north, east, down; m, m/s), the attitude's w, i, j, k, the
-/// rates p, q, r (rad/s), the running values of 8 motors and of 8 servos, and the thrust scales of
-/// the 8 motors, of which 1 is as built. A state filled by hand needs them too: see
-/// [`motors_as_built`].
+/// rates p, q, r (rad/s), the running values of 8 motors and of 8 servos, the thrust scales of the 8
+/// motors, of which 1 is as built, and the running values of 8 lift rotors. A state filled by hand
+/// needs the scales too: see [`motors_as_built`]. Lift rotors are those of an airframe with lift
+/// numbers; without them no tick changes their running values, which do nothing.
 pub type State = [f32; STATE_NUMBERS];
 
 /// Sets the 8 thrust scales of a state to 1. For a state that is filled by hand: scales left at 0
-/// are accepted, and the motors then give no thrust. A state that was read has its scales.
+/// are accepted, and the motors along body x then give no thrust; lift rotors have no scales. A state
+/// that was read has its scales.
 pub fn motors_as_built(state: &mut State) {
     state[STATE_SCALES..STATE_SCALES + SLOTS].fill(1.0);
 }
@@ -111,7 +113,8 @@ impl fmt::Display for Answer {
 
 impl Error for Answer {}
 
-/// What an accepted tick reports.
+/// What an accepted tick reports. The thrust is that of the motors along body x; lift rotors are not in
+/// it.
 #[derive(Debug, Clone, Copy, PartialEq)]
 pub struct Report {
     pub alpha_rad: f32,
@@ -126,8 +129,9 @@ pub struct Ran {
     pub accepted: u64,
 }
 
-/// Reads a state block, whose numbers must be within the envelope. One without thrust scales, of
-/// [`STATE_BYTES_UNSCALED`] bytes, is read too: they are then 1.
+/// Reads a state block, whose numbers must be within the envelope. One without the running values of
+/// lift rotors, of [`STATE_BYTES_NO_LIFT`] bytes, is read too: they are then 0. So is one without
+/// thrust scales besides, of [`STATE_BYTES_UNSCALED`] bytes: they are then 1.
 pub fn read_state(block: &[u8]) -> Result<State, Answer> {
     let mut state = [0.0; STATE_NUMBERS];
     Answer::refused(raw::read_state(block, &mut state))?;
@@ -165,7 +169,12 @@ pub fn airframe_length(bytes: &[u8]) -> Option<usize> {
     };
     let rows = usize::from(second & 31);
     let wash = if first & 2 == 0 { 0 } else { WASH_BYTES };
-    (rows <= MOST_ROWS).then_some(AIRFRAME_BYTES + wash + ROW_BYTES * rows)
+    let lift = if usize::from(first) & HEADER_LIFT == 0 {
+        0
+    } else {
+        LIFT_BYTES
+    };
+    (rows <= MOST_ROWS).then_some(AIRFRAME_BYTES + wash + lift + ROW_BYTES * rows)
 }
 
 /// An airframe that the bench has accepted: its block and its array of numbers.
@@ -192,7 +201,8 @@ impl Airframe {
         &self.numbers
     }
 
-    /// One tick: moves `state` on, but for its thrust scales. A refused tick leaves it as it was.
+    /// One tick: moves `state` on, but for its thrust scales and, where the airframe has no lift
+    /// numbers, its lift rotors. A refused tick leaves it as it was.
     pub fn tick(&self, state: &mut State, tick: &Tick) -> Result<Report, Answer> {
         let mut report = [0.0; REPORT_NUMBERS];
         Answer::refused(raw::tick_prepared(&self.numbers, state, tick, &mut report))?;

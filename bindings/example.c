@@ -1,5 +1,5 @@
 /* Flies a sample flight through the library, whatever the float environment is: example FILE. Prints the number of accepted ticks
- * and the end state's 37 numbers as hex bits, any zero as 00000000. */
+ * and the end state's 45 numbers as hex bits, any zero as 00000000. */
 #include <inttypes.h>
 #include <stdio.h>
 #include <stdlib.h>

@@ -1,5 +1,5 @@
 //! Flies a sample flight through the library: `example FILE`. Prints the number of accepted ticks
-//! and the end state's 37 numbers as hex bits, any zero as 00000000.
+//! and the end state's 45 numbers as hex bits, any zero as 00000000.
 
 use std::error::Error;
 use std::process::ExitCode;

@@ -1,18 +1,22 @@
 // The lengths, answers and places of include/bench.h, written by bindings/lengths.
 pub const BLOCK_VERSION: usize = 1;
-pub const CALLS_VERSION: usize = 5;
-pub const AIRFRAME_NUMBERS: usize = 106;
-pub const STATE_NUMBERS: usize = 37;
+pub const CALLS_VERSION: usize = 6;
+pub const AIRFRAME_NUMBERS: usize = 145;
+pub const STATE_NUMBERS: usize = 45;
 pub const TICK_NUMBERS: usize = 20;
 pub const REPORT_NUMBERS: usize = 3;
 pub const SLOTS: usize = 8;
-pub const STATE_BYTES: usize = 148;
+pub const STATE_BYTES: usize = 180;
+pub const STATE_BYTES_NO_LIFT: usize = 148;
 pub const STATE_BYTES_UNSCALED: usize = 116;
 pub const TICK_BYTES: usize = 80;
 pub const AIRFRAME_BYTES: usize = 166;
 pub const WASH_BYTES: usize = 28;
+pub const LIFT_BYTES: usize = 24;
 pub const ROW_BYTES: usize = 13;
 pub const MOST_ROWS: usize = 16;
+pub const HEADER_LIFT: usize = 1;
+pub const ROW_LIFT: usize = 8;
 
 // Where the numbers of the arrays start.
 pub const STATE_POSITION: usize = 0;
@@ -22,6 +26,7 @@ pub const STATE_RATES: usize = 10;
 pub const STATE_MOTORS: usize = 13;
 pub const STATE_SERVOS: usize = 21;
 pub const STATE_SCALES: usize = 29;
+pub const STATE_LIFT: usize = 37;
 pub const TICK_STEP: usize = 0;
 pub const TICK_WIND: usize = 1;
 pub const TICK_MOTORS: usize = 4;
@@ -35,6 +40,10 @@ pub const AIRFRAME_WASH: usize = 49;
 pub const AIRFRAME_USED: usize = 50;
 pub const AIRFRAME_TORQUES: usize = 58;
 pub const AIRFRAME_WEIGHTS: usize = 82;
+pub const AIRFRAME_LIFT_PLACES: usize = 106;
+pub const AIRFRAME_LIFT: usize = 112;
+pub const AIRFRAME_LIFT_USED: usize = 113;
+pub const AIRFRAME_LIFT_TORQUES: usize = 121;
 
 /// The words of the answers from 0 on.
 pub const ANSWERS: [&str; 11] = [
@@ -52,7 +61,7 @@ pub const ANSWERS: [&str; 11] = [
 ];
 
 /// The names of the places from 1 on.
-pub const PLACES: [&str; 51] = [
+pub const PLACES: [&str; 58] = [
     "mass_kg",
     "inertia_kgm2 roll",
     "inertia_kgm2 pitch",
@@ -104,6 +113,13 @@ pub const PLACES: [&str; 51] = [
     "row factor",
     "motor torque",
     "surface weight",
+    "lift max_thrust_n",
+    "lift thrust_exponent",
+    "lift moment_arm_m",
+    "lift yaw_torque_per_thrust_m",
+    "lift time_constant_s",
+    "lift drag_per_thrust_n_per_mps",
+    "lift torque",
 ];
 
 /// The places of an airframe number that is out of range.
@@ -159,4 +175,11 @@ pub mod place {
     pub const ROW_FACTOR: u64 = 49;
     pub const MOTOR_TORQUE: u64 = 50;
     pub const SURFACE_WEIGHT: u64 = 51;
+    pub const LIFT_MAX_THRUST_N: u64 = 52;
+    pub const LIFT_THRUST_EXPONENT: u64 = 53;
+    pub const LIFT_MOMENT_ARM_M: u64 = 54;
+    pub const LIFT_YAW_TORQUE_PER_THRUST_M: u64 = 55;
+    pub const LIFT_TIME_CONSTANT_S: u64 = 56;
+    pub const LIFT_DRAG_PER_THRUST_N_PER_MPS: u64 = 57;
+    pub const LIFT_TORQUE: u64 = 58;
 }

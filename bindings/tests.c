@@ -1,14 +1,14 @@
-/* The header's own code on a sample flight: tests FILE OLDER. Words and lengths, and the guarded forms from every float
+/* The header's own code on a sample flight: tests FILE OLDER OLDEST. Words and lengths, and the guarded forms from every float
  * environment: the bits they give are those of the plain calls in the default one, and the caller's control word comes back. And
- * the winds, thrust scales and thrust exponents that a tick refuses, at their limits. OLDER is the same flight with a state block
- * without scales. */
+ * the winds, thrust scales, thrust exponents and lift rotors that a tick refuses, at their limits. OLDER is the same flight with a
+ * state block without lift rotors, OLDEST with one without thrust scales too. */
 #include <stdio.h>
 #include <string.h>
 
 #include "bench.h"
 
 enum { MOST = 1 << 20, TICKS = 20 };
-static uint8_t bytes[MOST], older_bytes[MOST];
+static uint8_t bytes[MOST], older_bytes[MOST], oldest_bytes[MOST];
 static int failures;
 
 static void check(int holds, const char *what, const char *where)
@@ -64,6 +64,7 @@ static void make_telling(struct sample *s)
 static void test_words(void)
 {
     static const uint8_t plain[2] = {0x10, 0}, wash[2] = {0x12, 2}, full[2] = {0x10, 16}, over[2] = {0x10, 17};
+    static const uint8_t lift[2] = {0x11, 0}, all[2] = {0x17, 16};
     check(strcmp(bench_answer_text(BENCH_DONE), "done") == 0, "answer 0", "words");
     check(strcmp(bench_answer_text(BENCH_DEPARTURE), "the next state would be outside the envelope (departure)") == 0, "answer 9",
           "words");
@@ -71,12 +72,15 @@ static void test_words(void)
           "words");
     check(strcmp(bench_answer_text(11), "unknown answer") == 0, "answer 11", "words");
     check(BENCH_PLACE_MASS_KG == 1 && strcmp(bench_place_name(1), "mass_kg") == 0, "place 1", "words");
-    check(BENCH_PLACE_DAMPING_FRACTION == 48 && BENCH_PLACE_SURFACE_WEIGHT == 51, "the last places", "words");
+    check(BENCH_PLACE_DAMPING_FRACTION == 48 && BENCH_PLACE_SURFACE_WEIGHT == 51, "places 48 and 51", "words");
+    check(BENCH_PLACE_LIFT_MAX_THRUST_N == 52 && BENCH_PLACE_LIFT_TORQUE == 58, "the last places", "words");
     check(strcmp(bench_place_name(0), "unknown place") == 0, "place 0", "words");
-    check(strcmp(bench_place_name(52), "unknown place") == 0, "place 52", "words");
+    check(strcmp(bench_place_name(59), "unknown place") == 0, "place 59", "words");
     check(bench_airframe_length(plain) == 166, "no row", "lengths");
     check(bench_airframe_length(wash) == 166 + 28 + 2 * 13, "a wash and two rows", "lengths");
     check(bench_airframe_length(full) == 166 + 16 * 13, "16 rows", "lengths");
+    check(bench_airframe_length(lift) == 166 + 24, "lift numbers", "lengths");
+    check(bench_airframe_length(all) == 166 + 28 + 24 + 16 * 13, "a wash, lift numbers and 16 rows", "lengths");
     check(bench_airframe_length(over) == 0, "17 rows", "lengths");
 }
 
@@ -360,30 +364,37 @@ static void test_as_built(void)
     float state[S + 1] = {0};
     state[S] = 7.0f;
     bench_motors_as_built(state);
-    for (size_t place = 0; place < S; place++)
-        check(state[place] == (place < BENCH_STATE_SCALES ? 0.0f : 1.0f), "another number", "bench_motors_as_built");
+    for (size_t place = 0; place < S; place++) {
+        int scale = place >= BENCH_STATE_SCALES && place < BENCH_STATE_SCALES + BENCH_SLOTS;
+        check(state[place] == (scale ? 1.0f : 0.0f), "another number", "bench_motors_as_built");
+    }
     check(state[S] == 7.0f, "a number beyond the state", "bench_motors_as_built");
 }
 
-/* The older block is read as the sample's with scales of 1, and is not written. */
-static void test_older(const struct sample *s, const struct sample *older)
+/* An older block is read as the sample's, with scales of 1 and lift rotors that stand where it has none, and is not written. */
+static void test_older(const struct sample *s, const struct sample *older, size_t length, const char *where)
 {
     float state[S], read[S];
-    uint8_t block[BENCH_STATE_BYTES], lent[BENCH_STATE_BYTES_UNSCALED], found[BENCH_STATE_BYTES_UNSCALED];
+    uint8_t block[BENCH_STATE_BYTES], lent[BENCH_STATE_BYTES], found[BENCH_STATE_BYTES];
     memset(lent, 0xA5, sizeof lent);
     memcpy(found, lent, sizeof lent);
-    check(guarded.read_state(s->state, BENCH_STATE_BYTES, state, S) == BENCH_DONE, "the sample's state is refused", "148 bytes");
-    check(guarded.read_state(older->state, BENCH_STATE_BYTES_UNSCALED, read, S) == BENCH_DONE, "refused", "116 bytes");
+    check(guarded.read_state(s->state, BENCH_STATE_BYTES, state, S) == BENCH_DONE, "the sample's state is refused", where);
+    check(guarded.read_state(older->state, length, read, S) == BENCH_DONE, "refused", where);
     bench_motors_as_built(state);
-    check(memcmp(read, state, sizeof read) == 0, "another state", "116 bytes");
-    check(guarded.write_state(read, S, block, BENCH_STATE_BYTES) == BENCH_DONE, "not written", "116 bytes");
-    check(memcmp(block, s->state, sizeof block) == 0, "another block", "116 bytes");
-    check(guarded.write_state(read, S, lent, sizeof lent) == BENCH_WRONG_LENGTH, "written", "116 bytes");
-    check(memcmp(lent, found, sizeof lent) == 0, "the bytes are not as found", "116 bytes");
+    check(memcmp(read, state, sizeof read) == 0, "another state", where);
+    check(guarded.write_state(read, S, block, BENCH_STATE_BYTES) == BENCH_DONE, "not written", where);
+    check(memcmp(block, s->state, sizeof block) == 0, "another block", where);
+    check(guarded.write_state(read, S, lent, length) == BENCH_WRONG_LENGTH, "written", where);
+    check(memcmp(lent, found, sizeof lent) == 0, "the bytes are not as found", where);
+}
+
+static void test_lengths(const struct sample *s)
+{
+    float read[S];
     for (size_t length = 0; length <= BENCH_STATE_BYTES + 1; length++) {
         uint8_t room[BENCH_STATE_BYTES + 1] = {0};
-        memcpy(room, block, sizeof block);
-        int fits = length == BENCH_STATE_BYTES || length == BENCH_STATE_BYTES_UNSCALED;
+        memcpy(room, s->state, BENCH_STATE_BYTES);
+        int fits = length == BENCH_STATE_BYTES || length == BENCH_STATE_BYTES_NO_LIFT || length == BENCH_STATE_BYTES_UNSCALED;
         check((guarded.read_state(room, length, read, S) == BENCH_DONE) == fits, "wrong about a length", "a state block");
     }
 }
@@ -393,31 +404,34 @@ static const uint32_t scales[] = {0x00000000, 0x80000000, 0x00000001, 0x3F800000
 static const uint32_t no_scales[] = {0x3F800001, 0x80000001, 0x7F800000, 0xFF800000, 0x7FC00000, 0xFFC00000, 0x7F800001};
 enum { SCALES = sizeof scales / sizeof *scales, NO_SCALES = sizeof no_scales / sizeof *no_scales };
 
-/* The sample's first ticks with this scale in this slot: an accepted one leaves all scales, a refused one the state. */
-static void fly_with_scale(const struct sample *s, size_t slot, uint32_t bits, uint64_t expected)
+/* The sample's first ticks with these bits at a place of its state from the scales on: an accepted one leaves all of these, lift
+ * rotors too, since the sample has no lift numbers; a refused one the state. */
+static void fly_with(const struct sample *s, size_t place, uint32_t bits, uint64_t expected, const char *where)
 {
     struct results r;
     size_t kept = expected == BENCH_DONE ? BENCH_STATE_SCALES : 0, count = expected == BENCH_DONE ? TICKS : 0;
     read_blocks(&guarded, s, &r);
-    memcpy(r.start + BENCH_STATE_SCALES + slot, &bits, sizeof bits);
+    memcpy(r.start + place, &bits, sizeof bits);
     tick_both(&guarded, s, &r);
     run_both(&guarded, s, &r);
-    check(r.replies[4] == expected && r.replies[5] == expected, "another reply", "a scale");
-    check(r.replies[6] == BENCH_DONE && r.replies[7] == BENCH_DONE, "a run is refused", "a scale");
+    check(r.replies[4] == expected && r.replies[5] == expected, "another reply", where);
+    check(r.replies[6] == BENCH_DONE && r.replies[7] == BENCH_DONE, "a run is refused", where);
     for (size_t run = 0; run < 3; run++)
-        check(r.accepted[run] == count, "another count", "a scale");
+        check(r.accepted[run] == count, "another count", where);
     const float *ends[4] = {r.by_block, r.prepared, r.ran, r.pair[0]};
     for (size_t end = 0; end < 4; end++)
-        check(memcmp(ends[end] + kept, r.start + kept, (S - kept) * sizeof *r.start) == 0, "not as found", "a scale");
+        check(memcmp(ends[end] + kept, r.start + kept, (S - kept) * sizeof *r.start) == 0, "not as found", where);
 }
 
+/* Scales and lift rotors' running values have the same limits. */
 static void test_scales(const struct sample *s)
 {
-    for (size_t slot = 0; slot < BENCH_SLOTS; slot++) {
+    for (size_t place = BENCH_STATE_SCALES; place < BENCH_STATE_LIFT + BENCH_SLOTS; place++) {
+        const char *where = place < BENCH_STATE_LIFT ? "a scale" : "a lift rotor";
         for (size_t at = 0; at < SCALES; at++)
-            fly_with_scale(s, slot, scales[at], BENCH_DONE);
+            fly_with(s, place, scales[at], BENCH_DONE, where);
         for (size_t at = 0; at < NO_SCALES; at++)
-            fly_with_scale(s, slot, no_scales[at], BENCH_STATE_OUTSIDE);
+            fly_with(s, place, no_scales[at], BENCH_STATE_OUTSIDE, where);
     }
 }
 
@@ -455,15 +469,96 @@ static void test_exponents(const struct sample *s)
         fly_with_exponent(s, no_exponents[at], BENCH_NUMBER_OUT_OF_RANGE + 16 * BENCH_PLACE_THRUST_EXPONENT);
 }
 
+/* ---- Lift rotors ---- */
+
+/* Lift numbers in order, and the first one outside its limits that each place is tried with. */
+static const float lift_numbers[6] = {10.0f, 2.0f, 0.5f, 0.25f, 0.0625f, 0.01f};
+static const uint32_t no_lift_numbers[6] = {0, 0x40400001, 0x41200001, 0xC1200001, 0, 0x41200001};
+
+/* The sample's airframe with lift numbers and, as its last row, a lift rotor's; `lent` has the room. */
+static void make_lifted(const struct sample *s, struct sample *lifted, uint8_t *lent)
+{
+    size_t rows = s->airframe_bytes - BENCH_AIRFRAME_BYTES;
+    uint8_t *at = lent + BENCH_AIRFRAME_BYTES;
+    *lifted = *s;
+    lifted->airframe = lent;
+    memcpy(lent, s->airframe, BENCH_AIRFRAME_BYTES);
+    lent[0] |= BENCH_HEADER_LIFT;
+    lent[1]++;
+    for (size_t number = 0; number < 6; number++) {
+        uint32_t bits;
+        memcpy(&bits, lift_numbers + number, sizeof bits);
+        put(at, number, bits);
+    }
+    memcpy(at + BENCH_LIFT_BYTES, s->airframe + BENCH_AIRFRAME_BYTES, rows);
+    memset(at + BENCH_LIFT_BYTES + rows, 0, BENCH_ROW_BYTES);
+    at[BENCH_LIFT_BYTES + rows] = 3 << 4 | BENCH_ROW_LIFT;
+    lifted->airframe_bytes = bench_airframe_length(lent);
+    check(lifted->airframe_bytes == s->airframe_bytes + BENCH_LIFT_BYTES + BENCH_ROW_BYTES, "another length", "lift rotors");
+}
+
+/* Flown, the rotor of slot 3 follows its command, and the array has what the block says. */
+static void fly_lifted(const struct sample *lifted)
+{
+    struct results r;
+    memset(&r, 0, sizeof r);
+    read_blocks(&guarded, lifted, &r);
+    r.tick[BENCH_TICK_MOTORS + 3] = 1.0f;
+    tick_both(&guarded, lifted, &r);
+    run_both(&guarded, lifted, &r);
+    write_blocks(&guarded, &r);
+    check(all_done(&r), "a call is refused", "lift rotors");
+    check(r.by_block[BENCH_STATE_LIFT + 3] > 0.0f && r.prepared[BENCH_STATE_LIFT + 3] > 0.0f, "one does not run", "lift rotors");
+    check(r.by_block[BENCH_STATE_LIFT + 2] == 0.0f, "another one runs", "lift rotors");
+    check(memcmp(r.airframe + BENCH_AIRFRAME_LIFT_PLACES, lift_numbers, sizeof lift_numbers) == 0, "other numbers", "lift rotors");
+    check(r.airframe[BENCH_AIRFRAME_LIFT] == 1.0f, "another flag", "lift rotors");
+    check(r.airframe[BENCH_AIRFRAME_LIFT_USED + 3] == 1.0f, "another mark", "lift rotors");
+    check(r.airframe[BENCH_AIRFRAME_LIFT_TORQUES + 3 * 3] == 0.0f, "another torque", "lift rotors");
+}
+
+/* The reply to the block with another byte at `at`, which is then put back. */
+static uint64_t reply_with(const struct sample *lifted, size_t at, uint8_t byte)
+{
+    uint8_t was = lifted->airframe[at];
+    lifted->airframe[at] = byte;
+    uint64_t reply = guarded.read_airframe(lifted->airframe, lifted->airframe_bytes);
+    lifted->airframe[at] = was;
+    return reply;
+}
+
+static void test_lift(const struct sample *s)
+{
+    uint8_t room[512];
+    struct sample lifted;
+    make_lifted(s, &lifted, room);
+    fly_lifted(&lifted);
+    size_t last = lifted.airframe_bytes - BENCH_ROW_BYTES;
+    check(reply_with(&lifted, last, 0x80 | BENCH_ROW_LIFT) == BENCH_RESERVED_BIT, "taken on a servo's row", "a lift rotor's bit");
+    check(reply_with(&lifted, last, BENCH_ROW_LIFT | 1) == BENCH_RESERVED_BIT, "taken beside another", "a lift rotor's bit");
+    check(reply_with(&lifted, 1, lifted.airframe[1] | 0x20) == BENCH_RESERVED_BIT, "taken", "a header's reserved bit");
+    for (size_t number = 0; number < 6; number++) {
+        uint8_t *at = lifted.airframe + BENCH_AIRFRAME_BYTES + 4 * number, was[4];
+        memcpy(was, at, sizeof was);
+        put(at, 0, no_lift_numbers[number]);
+        check(guarded.read_airframe(lifted.airframe, lifted.airframe_bytes) ==
+                  BENCH_NUMBER_OUT_OF_RANGE + 16 * (BENCH_PLACE_LIFT_MAX_THRUST_N + number),
+              "another reply", bench_place_name((unsigned)(BENCH_PLACE_LIFT_MAX_THRUST_N + number)));
+        memcpy(at, was, sizeof was);
+    }
+}
+
 int main(int count, char **arguments)
 {
-    struct sample sample, older;
-    if (count != 3 || !read_sample(arguments[1], bytes, BENCH_STATE_BYTES, &sample) ||
-        !read_sample(arguments[2], older_bytes, BENCH_STATE_BYTES_UNSCALED, &older)) {
-        fprintf(stderr, "usage: tests FILE OLDER, a flight of %d ticks or more\n", TICKS);
+    struct sample sample, older, oldest;
+    if (count != 4 || !read_sample(arguments[1], bytes, BENCH_STATE_BYTES, &sample) ||
+        !read_sample(arguments[2], older_bytes, BENCH_STATE_BYTES_NO_LIFT, &older) ||
+        !read_sample(arguments[3], oldest_bytes, BENCH_STATE_BYTES_UNSCALED, &oldest)) {
+        fprintf(stderr, "usage: tests FILE OLDER OLDEST, a flight of %d ticks or more\n", TICKS);
         return 1;
     }
-    test_older(&sample, &older);
+    test_older(&sample, &older, BENCH_STATE_BYTES_NO_LIFT, "148 bytes");
+    test_older(&sample, &oldest, BENCH_STATE_BYTES_UNSCALED, "116 bytes");
+    test_lengths(&sample);
     make_telling(&sample);
     test_words();
     test_as_built();
@@ -471,5 +566,6 @@ int main(int count, char **arguments)
     test_winds(&sample);
     test_scales(&sample);
     test_exponents(&sample);
+    test_lift(&sample);
     return failures != 0;
 }

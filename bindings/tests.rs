@@ -5,6 +5,8 @@
 mod environments;
 #[path = "tests/exponents.rs"]
 mod exponents;
+#[path = "tests/lift.rs"]
+mod lift;
 #[path = "tests/limits.rs"]
 mod limits;
 #[path = "tests/nans.rs"]
@@ -224,7 +226,8 @@ fn a_tick_of_another_length_is_refused() {
 #[test]
 fn answers_and_places_have_their_words() {
     assert_eq!(bench::place_name(bench::place::DAMPING_FRACTION), "damping_fraction");
-    assert_eq!(["unknown place"; 2], [0, 52].map(bench::place_name));
+    assert_eq!(bench::place_name(bench::place::LIFT_TORQUE), "lift torque");
+    assert_eq!(["unknown place"; 2], [0, 59].map(bench::place_name));
     for reply in (0..=10).map(|number| number + 16 * u64::from(number == 6)) {
         let answer = Answer::of(reply);
         assert_eq!(answer.number() as u64, reply % 16);

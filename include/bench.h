@@ -35,29 +35,39 @@ extern "C" {
  * run looks at its trace's length before its block. 3 tests the wind of a tick: a NaN or more than 200 m/s gets the new answer
  * 10, after 8 and before 9. 4 has eight thrust scales more in a state: its array has 37 floats, not 29, and its block 148 bytes,
  * not 116, which are still read. 5 takes thrust exponents (place 36) from 1 to 3, not 2 alone, and has bench_logf and
- * bench_powf. */
+ * bench_powf. 6 has lift rotors: the bits of header and row that announce them are no longer refused, a state has eight running
+ * values more (45 floats, 180 bytes; 148 and 116 are still read), an airframe's array 39 floats more at its end. */
 #define BENCH_BLOCK_VERSION 1
-#define BENCH_CALLS_VERSION 5
+#define BENCH_CALLS_VERSION 6
 
 /* How many floats each array has. */
-#define BENCH_AIRFRAME_NUMBERS 106
-#define BENCH_STATE_NUMBERS 37
+#define BENCH_AIRFRAME_NUMBERS 145
+#define BENCH_STATE_NUMBERS 45
 #define BENCH_TICK_NUMBERS 20
 #define BENCH_REPORT_NUMBERS 3
 
-/* How many motors there are, and how many servos. */
+/* How many motors of either group there are, and how many servos. The motors along body x pull the aeroplane ahead; lift rotors,
+ * the other group, push it up, along body -z. A slot may have one of each: both follow its motor command, each by its own lag. */
 #define BENCH_SLOTS 8
 
-/* How many bytes each block has. An airframe block has 166, and 28 for a wash and 13 for each row more. A trace is tick blocks
- * one after another. Numbers in blocks are IEEE 754 floats of 32 bits, the highest byte first. A state block without the thrust
- * scales, as states were before there were any, has BENCH_STATE_BYTES_UNSCALED bytes: bench_read_state takes it, no other call. */
-#define BENCH_STATE_BYTES 148
+/* How many bytes each block has. An airframe block has 166, and 28 for a wash, 24 for lift numbers and 13 for each row more. A
+ * trace is tick blocks one after another. Numbers in blocks are IEEE 754 floats of 32 bits, the highest byte first. A state block
+ * without the lift rotors' running values, as states were before there were any, has BENCH_STATE_BYTES_NO_LIFT bytes, and one
+ * without the thrust scales too BENCH_STATE_BYTES_UNSCALED: bench_read_state takes both, no other call does. */
+#define BENCH_STATE_BYTES 180
+#define BENCH_STATE_BYTES_NO_LIFT 148
 #define BENCH_STATE_BYTES_UNSCALED 116
 #define BENCH_TICK_BYTES 80
 #define BENCH_AIRFRAME_BYTES 166
 #define BENCH_WASH_BYTES 28
+#define BENCH_LIFT_BYTES 24
 #define BENCH_ROW_BYTES 13
 #define BENCH_MOST_ROWS 16
+
+/* The bits of an airframe block that announce lift rotors: of its first byte, that six lift numbers stand behind the wash's, or
+ * behind the others where there is no wash; of a row's first byte, that the motor of its slot is a lift rotor. */
+#define BENCH_HEADER_LIFT 1
+#define BENCH_ROW_LIFT 8
 
 /* What the bench answers: BENCH_DONE = 0 and so on, each with its words. */
 #define BENCH_ANSWERS(ANSWER)                                                        \
@@ -74,59 +84,67 @@ extern "C" {
     ANSWER(10, WIND_UNUSABLE, "a component of the wind is a NaN or beyond 200 m/s")
 
 /* The places of answer 6: BENCH_PLACE_MASS_KG = 1 and so on, each with its name. 39 is the motors' time constant, 42 to 48 are
- * the wash's numbers; 49 is any row's factor, 50 any motor's torque, 51 any surface's weight. docs/SCOPE.md has their limits. */
-#define BENCH_PLACES(PLACE)                                               \
-    PLACE(1, MASS_KG, "mass_kg")                                          \
-    PLACE(2, INERTIA_KGM2_ROLL, "inertia_kgm2 roll")                      \
-    PLACE(3, INERTIA_KGM2_PITCH, "inertia_kgm2 pitch")                    \
-    PLACE(4, INERTIA_KGM2_YAW, "inertia_kgm2 yaw")                        \
-    PLACE(5, WING_AREA_M2, "wing_area_m2")                                \
-    PLACE(6, SPAN_M, "span_m")                                            \
-    PLACE(7, CHORD_M, "chord_m")                                          \
-    PLACE(8, C_LIFT_0, "c_lift_0")                                        \
-    PLACE(9, C_LIFT_ALPHA, "c_lift_alpha")                                \
-    PLACE(10, ALPHA_STALL_RAD, "alpha_stall_rad")                         \
-    PLACE(11, STALL_SHARPNESS, "stall_sharpness")                         \
-    PLACE(12, C_DRAG_0, "c_drag_0")                                       \
-    PLACE(13, OSWALD, "oswald")                                           \
-    PLACE(14, C_SIDE_BETA, "c_side_beta")                                 \
-    PLACE(15, C_SIDE_RUDDER, "c_side_rudder")                             \
-    PLACE(16, C_ROLL_BETA, "c_roll_beta")                                 \
-    PLACE(17, C_ROLL_P, "c_roll_p")                                       \
-    PLACE(18, C_ROLL_R, "c_roll_r")                                       \
-    PLACE(19, C_ROLL_AILERON, "c_roll_aileron")                           \
-    PLACE(20, C_ROLL_RUDDER, "c_roll_rudder")                             \
-    PLACE(21, C_PITCH_0, "c_pitch_0")                                     \
-    PLACE(22, C_PITCH_ALPHA, "c_pitch_alpha")                             \
-    PLACE(23, POST_STALL_PITCH_SHARE, "post_stall_pitch_share")           \
-    PLACE(24, C_PITCH_Q, "c_pitch_q")                                     \
-    PLACE(25, C_PITCH_ELEVATOR, "c_pitch_elevator")                       \
-    PLACE(26, SURFACE_STALL_SHARE, "surface_stall_share")                 \
-    PLACE(27, C_YAW_BETA, "c_yaw_beta")                                   \
-    PLACE(28, C_YAW_P, "c_yaw_p")                                         \
-    PLACE(29, C_YAW_R, "c_yaw_r")                                         \
-    PLACE(30, C_YAW_RUDDER, "c_yaw_rudder")                               \
-    PLACE(31, MAX_DEFLECTION_RAD_AILERON, "max_deflection_rad aileron")   \
-    PLACE(32, MAX_DEFLECTION_RAD_ELEVATOR, "max_deflection_rad elevator") \
-    PLACE(33, MAX_DEFLECTION_RAD_RUDDER, "max_deflection_rad rudder")     \
-    PLACE(34, SERVO_TIME_CONSTANT_S, "servo_time_constant_s")             \
-    PLACE(35, MAX_THRUST_N, "max_thrust_n")                               \
-    PLACE(36, THRUST_EXPONENT, "thrust_exponent")                         \
-    PLACE(37, THRUST_FALLOFF, "thrust_falloff")                           \
-    PLACE(38, THRUST_LINE_BELOW_CG_M, "thrust_line_below_cg_m")           \
-    PLACE(39, TIME_CONSTANT_S, "time_constant_s")                         \
-    PLACE(40, MOMENT_ARM_M, "moment_arm_m")                               \
-    PLACE(41, YAW_TORQUE_PER_THRUST_M, "yaw_torque_per_thrust_m")         \
-    PLACE(42, DISC_AREA_M2, "disc_area_m2")                               \
-    PLACE(43, SURFACE_FRACTION, "surface_fraction")                       \
-    PLACE(44, ROLL_FRACTION, "roll_fraction")                             \
-    PLACE(45, PITCH_MOMENT, "pitch_moment")                               \
-    PLACE(46, STALL_PITCH_MOMENT, "stall_pitch_moment")                   \
-    PLACE(47, SINK_LOSS, "sink_loss")                                     \
-    PLACE(48, DAMPING_FRACTION, "damping_fraction")                       \
-    PLACE(49, ROW_FACTOR, "row factor")                                   \
-    PLACE(50, MOTOR_TORQUE, "motor torque")                               \
-    PLACE(51, SURFACE_WEIGHT, "surface weight")
+ * the wash's numbers; 49 is any row's factor, 50 any motor's torque, 51 any surface's weight; 52 to 57 are the lift rotors'
+ * numbers, 58 is any lift rotor's torque. docs/SCOPE.md has their limits. */
+#define BENCH_PLACES(PLACE)                                                     \
+    PLACE(1, MASS_KG, "mass_kg")                                                \
+    PLACE(2, INERTIA_KGM2_ROLL, "inertia_kgm2 roll")                            \
+    PLACE(3, INERTIA_KGM2_PITCH, "inertia_kgm2 pitch")                          \
+    PLACE(4, INERTIA_KGM2_YAW, "inertia_kgm2 yaw")                              \
+    PLACE(5, WING_AREA_M2, "wing_area_m2")                                      \
+    PLACE(6, SPAN_M, "span_m")                                                  \
+    PLACE(7, CHORD_M, "chord_m")                                                \
+    PLACE(8, C_LIFT_0, "c_lift_0")                                              \
+    PLACE(9, C_LIFT_ALPHA, "c_lift_alpha")                                      \
+    PLACE(10, ALPHA_STALL_RAD, "alpha_stall_rad")                               \
+    PLACE(11, STALL_SHARPNESS, "stall_sharpness")                               \
+    PLACE(12, C_DRAG_0, "c_drag_0")                                             \
+    PLACE(13, OSWALD, "oswald")                                                 \
+    PLACE(14, C_SIDE_BETA, "c_side_beta")                                       \
+    PLACE(15, C_SIDE_RUDDER, "c_side_rudder")                                   \
+    PLACE(16, C_ROLL_BETA, "c_roll_beta")                                       \
+    PLACE(17, C_ROLL_P, "c_roll_p")                                             \
+    PLACE(18, C_ROLL_R, "c_roll_r")                                             \
+    PLACE(19, C_ROLL_AILERON, "c_roll_aileron")                                 \
+    PLACE(20, C_ROLL_RUDDER, "c_roll_rudder")                                   \
+    PLACE(21, C_PITCH_0, "c_pitch_0")                                           \
+    PLACE(22, C_PITCH_ALPHA, "c_pitch_alpha")                                   \
+    PLACE(23, POST_STALL_PITCH_SHARE, "post_stall_pitch_share")                 \
+    PLACE(24, C_PITCH_Q, "c_pitch_q")                                           \
+    PLACE(25, C_PITCH_ELEVATOR, "c_pitch_elevator")                             \
+    PLACE(26, SURFACE_STALL_SHARE, "surface_stall_share")                       \
+    PLACE(27, C_YAW_BETA, "c_yaw_beta")                                         \
+    PLACE(28, C_YAW_P, "c_yaw_p")                                               \
+    PLACE(29, C_YAW_R, "c_yaw_r")                                               \
+    PLACE(30, C_YAW_RUDDER, "c_yaw_rudder")                                     \
+    PLACE(31, MAX_DEFLECTION_RAD_AILERON, "max_deflection_rad aileron")         \
+    PLACE(32, MAX_DEFLECTION_RAD_ELEVATOR, "max_deflection_rad elevator")       \
+    PLACE(33, MAX_DEFLECTION_RAD_RUDDER, "max_deflection_rad rudder")           \
+    PLACE(34, SERVO_TIME_CONSTANT_S, "servo_time_constant_s")                   \
+    PLACE(35, MAX_THRUST_N, "max_thrust_n")                                     \
+    PLACE(36, THRUST_EXPONENT, "thrust_exponent")                               \
+    PLACE(37, THRUST_FALLOFF, "thrust_falloff")                                 \
+    PLACE(38, THRUST_LINE_BELOW_CG_M, "thrust_line_below_cg_m")                 \
+    PLACE(39, TIME_CONSTANT_S, "time_constant_s")                               \
+    PLACE(40, MOMENT_ARM_M, "moment_arm_m")                                     \
+    PLACE(41, YAW_TORQUE_PER_THRUST_M, "yaw_torque_per_thrust_m")               \
+    PLACE(42, DISC_AREA_M2, "disc_area_m2")                                     \
+    PLACE(43, SURFACE_FRACTION, "surface_fraction")                             \
+    PLACE(44, ROLL_FRACTION, "roll_fraction")                                   \
+    PLACE(45, PITCH_MOMENT, "pitch_moment")                                     \
+    PLACE(46, STALL_PITCH_MOMENT, "stall_pitch_moment")                         \
+    PLACE(47, SINK_LOSS, "sink_loss")                                           \
+    PLACE(48, DAMPING_FRACTION, "damping_fraction")                             \
+    PLACE(49, ROW_FACTOR, "row factor")                                         \
+    PLACE(50, MOTOR_TORQUE, "motor torque")                                     \
+    PLACE(51, SURFACE_WEIGHT, "surface weight")                                 \
+    PLACE(52, LIFT_MAX_THRUST_N, "lift max_thrust_n")                           \
+    PLACE(53, LIFT_THRUST_EXPONENT, "lift thrust_exponent")                     \
+    PLACE(54, LIFT_MOMENT_ARM_M, "lift moment_arm_m")                           \
+    PLACE(55, LIFT_YAW_TORQUE_PER_THRUST_M, "lift yaw_torque_per_thrust_m")     \
+    PLACE(56, LIFT_TIME_CONSTANT_S, "lift time_constant_s")                     \
+    PLACE(57, LIFT_DRAG_PER_THRUST_N_PER_MPS, "lift drag_per_thrust_n_per_mps") \
+    PLACE(58, LIFT_TORQUE, "lift torque")
 
 #define BENCH_CONSTANT(number, name, text) BENCH_##name = number,
 #define BENCH_PLACE_CONSTANT(number, name, text) BENCH_PLACE_##name = number,
@@ -176,7 +194,8 @@ static inline const char *bench_place_name(unsigned place)
 static inline size_t bench_airframe_length(const uint8_t header[2])
 {
     size_t rows = header[1] % 32, wash = header[0] & 2 ? BENCH_WASH_BYTES : 0;
-    return rows > BENCH_MOST_ROWS ? 0 : BENCH_AIRFRAME_BYTES + wash + BENCH_ROW_BYTES * rows;
+    size_t lift = header[0] & BENCH_HEADER_LIFT ? BENCH_LIFT_BYTES : 0;
+    return rows > BENCH_MOST_ROWS ? 0 : BENCH_AIRFRAME_BYTES + wash + lift + BENCH_ROW_BYTES * rows;
 }
 
 /* Where the numbers of a state's array start; they stand in the same order in its block. */
@@ -187,11 +206,12 @@ enum bench_state_places {
     BENCH_STATE_RATES = 10,    /* 3: body rates p, q, r, in rad/s */
     BENCH_STATE_MOTORS = 13,   /* 8: running motors, 0 to 1 */
     BENCH_STATE_SERVOS = 21,   /* 8: running servos, -1 to 1 */
-    BENCH_STATE_SCALES = 29    /* 8: thrust scales by motor slot, 0 to 1: 1 as built, 0 gives no thrust */
+    BENCH_STATE_SCALES = 29,   /* 8: thrust scales by motor slot, 0 to 1: 1 as built, 0 gives no thrust */
+    BENCH_STATE_LIFT = 37      /* 8: running lift rotors, 0 to 1; without lift numbers no tick changes them, and they do nothing */
 };
 
 /* Sets the eight thrust scales of a state's array to 1. For a state that is filled by hand: scales left at 0 are accepted, and the
- * motors then give no thrust. A state that was read has its scales. */
+ * motors along body x then give no thrust; lift rotors have no scales. A state that was read has its scales. */
 static inline void bench_motors_as_built(float state[BENCH_STATE_NUMBERS])
 {
     for (size_t slot = 0; slot < BENCH_SLOTS; slot++)
@@ -210,38 +230,45 @@ enum bench_tick_places {
 enum bench_report_places {
     BENCH_REPORT_ALPHA = 0, /* angle of attack, in rad */
     BENCH_REPORT_BETA = 1,  /* angle of sideslip, in rad */
-    BENCH_REPORT_THRUST = 2 /* thrust over all motors, in N */
+    BENCH_REPORT_THRUST = 2 /* thrust over all motors along body x, in N; lift rotors are not in it */
 };
 
 /* Where the numbers of a prepared airframe's array start. What a later bench adds comes at the end, so these stay. */
 enum bench_airframe_places {
-    BENCH_AIRFRAME_PLACES = 0,   /* 48: the numbers with places 1 to 48; 42 to 48 are the wash, zeros where there is none */
-    BENCH_AIRFRAME_FALLOFF = 48, /* 1: falloff kind, 0 Linear, else PitchSpeed */
-    BENCH_AIRFRAME_WASH = 49,    /* 1: wash present, 0 no, else yes */
-    BENCH_AIRFRAME_USED = 50,    /* 8: motors used, 0 no, else yes */
-    BENCH_AIRFRAME_TORQUES = 58, /* 24: roll, pitch, yaw of each motor, torque in Nm per N of thrust */
-    BENCH_AIRFRAME_WEIGHTS = 82  /* 24: roll, pitch, yaw weight of each surface */
+    BENCH_AIRFRAME_PLACES = 0,        /* 48: the numbers with places 1 to 48; 42 to 48 are the wash, zeros where there is none */
+    BENCH_AIRFRAME_FALLOFF = 48,      /* 1: falloff kind, 0 Linear, else PitchSpeed */
+    BENCH_AIRFRAME_WASH = 49,         /* 1: wash present, 0 no, else yes */
+    BENCH_AIRFRAME_USED = 50,         /* 8: motors used, 0 no, else yes */
+    BENCH_AIRFRAME_TORQUES = 58,      /* 24: roll, pitch, yaw of each motor, torque in Nm per N of thrust */
+    BENCH_AIRFRAME_WEIGHTS = 82,      /* 24: roll, pitch, yaw weight of each surface */
+    BENCH_AIRFRAME_LIFT_PLACES = 106, /* 6: the numbers with places 52 to 57, the lift rotors', zeros where there are none */
+    BENCH_AIRFRAME_LIFT = 112,        /* 1: lift numbers present, 0 no, else yes; where not, no lift rotor does anything */
+    BENCH_AIRFRAME_LIFT_USED = 113,   /* 8: lift rotors used, 0 no, else yes */
+    BENCH_AIRFRAME_LIFT_TORQUES = 121 /* 24: roll, pitch, yaw of each lift rotor, torque in Nm per N of thrust */
 };
 
 /* ---- Blocks ---- */
 
 /* Tests an airframe block and writes nothing. 0 for one that every tick accepts. Refused, the first that holds: fewer than 2
  * bytes (1); the version is not 1 (2); the falloff kind is 2 or 3 (3); a reserved bit of the header is 1 (4); more than 16 rows
- * (5); not as long as the header says (1); a reserved bit of a row is 1 (4); a number outside its limits, the lowest place (6). */
+ * (5); not as long as the header says (1); a reserved bit of a row is 1, or the bit of a lift rotor on a servo's row or without
+ * lift numbers (4); a number outside its limits, the lowest place (6). Of several rows for one slot the last counts, among the
+ * rows of its own group. */
 uint64_t bench_read_airframe(const uint8_t *block, size_t block_len);
 
-/* Reads an airframe block into an array of 106 floats, for bench_tick_prepared. Replies as bench_read_airframe. A refused block
+/* Reads an airframe block into an array of 145 floats, for bench_tick_prepared. Replies as bench_read_airframe. A refused block
  * gives zeros. An array of another length gets 1 and is left as found. */
 uint64_t bench_prepare(const uint8_t *block, size_t block_len, float *airframe, size_t airframe_len);
 
-/* Reads a state block into an array of 37 floats. A block of 148 bytes has them all; one of 116 has no thrust scales, which are
- * then 1. Refused: neither 148 bytes nor 116 (1); outside the envelope (7). A refused block gives zeros, scales too. An array of
- * another length gets 1 and is left as found. The envelope: position within 1,000,000 m, velocity within 1,000 m/s, rates within
- * 100 rad/s, ((i*i + j*j) + k*k) + w*w in 0.9..1.1, motors 0..1, servos -1..1, thrust scales 0..1; NaN is outside. */
+/* Reads a state block into an array of 45 floats. A block of 180 bytes has them all; one of 148 has no running values of lift
+ * rotors, which are then 0; one of 116 has no thrust scales either, which are then 1. Refused: neither 180 bytes, 148 nor 116 (1);
+ * outside the envelope (7). A refused block gives zeros, scales too. An array of another length gets 1 and is left as found. The
+ * envelope: position within 1,000,000 m, velocity within 1,000 m/s, rates within 100 rad/s, ((i*i + j*j) + k*k) + w*w in 0.9..1.1,
+ * motors 0..1, servos -1..1, thrust scales 0..1, lift rotors 0..1, without lift numbers too; NaN is outside. */
 uint64_t bench_read_state(const uint8_t *block, size_t block_len, float *state, size_t state_len);
 
-/* Writes a state's array of 37 floats into a block of 148 bytes. The numbers are written untested. An array or a block of another
- * length, 116 too, gets 1 and the block is left as found. */
+/* Writes a state's array of 45 floats into a block of 180 bytes. The numbers are written untested. An array or a block of another
+ * length, 148 and 116 too, gets 1 and the block is left as found. */
 uint64_t bench_write_state(const float *state, size_t state_len, uint8_t *block, size_t block_len);
 
 /* Reads a tick block into an array of 20 floats. The numbers are not tested. Refused: not 80 bytes (1). A refused block gives
@@ -254,24 +281,28 @@ uint64_t bench_write_tick(const float *tick, size_t tick_len, uint8_t *block, si
 
 /* ---- A tick ---- */
 
-/* One tick: moves the state in its array of 37 on by the tick's array of 20, with the airframe as its block, and gives alpha, beta
- * and thrust in the report's array of 3. Each motor's thrust is multiplied by its scale, and no tick changes a scale. Refused, the
- * first that holds: an array of another length (1), which leaves state and report as found; a refused block, with
- * bench_read_airframe's reply; the state outside the envelope (7); the step not in 1/1024..0.02 s (8); a component of the wind that
- * is a NaN or beyond 200 m/s either way (10); a departure (9). But for an array's length, a refusal leaves the state as found and
- * reports zeros. Commands may be any floats: one that is NaN counts as 0, others are held to their range. */
+/* One tick: moves the state in its array of 45 on by the tick's array of 20, with the airframe as its block, and gives alpha, beta
+ * and thrust in the report's array of 3. Each motor's thrust is multiplied by its scale, and no tick changes a scale. With lift
+ * numbers the lift rotors push along body -z, by their running values alone: airspeed takes nothing of it, and no scale does. Air
+ * along their discs drags them, by place 57 times their thrust times its speed ahead and its speed to the side. A motor of either
+ * group that no row names keeps its running value, and works by it. Refused, the first that holds: an array of another length (1),
+ * which leaves state and report as found; a refused block, with bench_read_airframe's reply; the state outside the envelope (7);
+ * the step not in 1/1024..0.02 s (8); a component of the wind that is a NaN or beyond 200 m/s either way (10); a departure (9). But
+ * for an array's length, a refusal leaves the state as found and reports zeros. Commands may be any floats: one that is NaN counts
+ * as 0, others are held to their range. */
 uint64_t bench_tick(const uint8_t *airframe_block, size_t airframe_block_len, float *state, size_t state_len, const float *tick,
                     size_t tick_len, float *report, size_t report_len);
 
-/* The same with the airframe as its array of 106, as bench_prepare gives it or made by hand. The array is tested at each tick: a
- * number out of range is refused with 6 and the lowest place, the motors' torques (within 100) with 50 and the surfaces' weights
- * (within 101) with 51; the numbers of a wash that is not present are not tested. The zeros of a refused block get 6, place 1. */
+/* The same with the airframe as its array of 145, as bench_prepare gives it or made by hand. The array is tested at each tick: a
+ * number out of range is refused with 6 and the lowest place, the motors' torques (within 100) with 50, the surfaces' weights
+ * (within 101) with 51 and the lift rotors' torques (within 100) with 58; the numbers of a wash that is not present are not tested,
+ * nor is any of 52 to 58 without lift numbers. The zeros of a refused block get 6, place 1. */
 uint64_t bench_tick_prepared(const float *airframe, size_t airframe_len, float *state, size_t state_len, const float *tick,
                              size_t tick_len, float *report, size_t report_len);
 
 /* ---- A run over a trace ---- */
 
-/* Flies the ticks of the trace one after another from the state in its array of 37, puts the end state there and the number of
+/* Flies the ticks of the trace one after another from the state in its array of 45, puts the end state there and the number of
  * accepted ticks into accepted. A refused tick does not end the run: the state stays, the next tick is flown, and the run still
  * replies 0. A state outside the envelope is a matter of its ticks. Refused, the first that holds: an array of another length
  * (1); a trace that is not whole ticks of 80 bytes (1); a refused block, with bench_read_airframe's reply. A refused run leaves
@@ -280,7 +311,7 @@ uint64_t bench_run(const uint8_t *airframe_block, size_t airframe_block_len, flo
                    size_t trace_len, uint64_t *accepted);
 
 /* The run above and its reflection: the same flight with left and right exchanged in airframe, state and ticks. What stands in
- * reflected at first does not matter. The end states go into both arrays of 37 and the counts into both numbers. Where the reply
+ * reflected at first does not matter. The end states go into both arrays of 45 and the counts into both numbers. Where the reply
  * is 0, it is proved that they mirror: in reflected, position and velocity east, i, k, p and r have the opposite sign, every
  * other number is that of state, zeros and NaNs alike, and the counts are equal. Refused as bench_run, where either array is of
  * another length (1) too: both arrays are then as found and both counts 0. */
@@ -297,8 +328,8 @@ float bench_expf(float x);
 /* The natural logarithm of v: minus infinity of 0, NaN below 0. */
 float bench_logf(float v);
 /* v to the power e: 0 where v is 0, else the exponential of e times the logarithm of v, at most 1; NaN where v is not in 0..1. A
- * motor running at v has this share of its thrust by an exponent other than 2; by 2 its share is v * v. The last digits of a power
- * are those of the formula: v to the power 1 need not be v, nor v to the power 2 be v * v. */
+ * motor of either group running at v has this share of its thrust by an exponent other than 2; by 2 its share is v * v. The last
+ * digits of a power are those of the formula: v to the power 1 need not be v, nor v to the power 2 be v * v. */
 float bench_powf(float v, float e);
 /* Sine and cosine of x in rad; NaN beyond size 4. */
 float bench_sinf(float x);

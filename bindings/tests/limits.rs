@@ -6,12 +6,14 @@ use bench::{AIRFRAME_NUMBERS, REPORT_NUMBERS, STATE_NUMBERS, place, place_name, 
 use crate::calm;
 
 const HEAD: &str = "| Place | Name | Unit | Low | High | Meaning |";
-const NUMBERS: usize = 48;
+/// How many numbers a block has with wash and lift numbers: places 1 to 48 and 52 to 57.
+const NUMBERS: usize = 54;
 const OUT_OF_RANGE: u64 = 6;
 
-// Where the torques and weights of a prepared airframe start.
+// Where the torques and weights of a prepared airframe start, and the lift rotors' torques.
 const TORQUES: usize = 58;
 const WEIGHTS: usize = 82;
+const LIFT_TORQUES: usize = 121;
 
 struct Row {
     place: u64,
@@ -44,9 +46,9 @@ fn table() -> Vec<Row> {
     rows.map(|line| row(line).unwrap_or_else(|| panic!("not a row: {line}"))).collect()
 }
 
-/// An accepted block with wash, and with the rows given: ones.
+/// An accepted block with wash and lift numbers, and with the rows given: ones.
 fn block(pitch_speed: bool, rows: &[[f32; 3]]) -> Vec<u8> {
-    let mut block = vec![if pitch_speed { 0x16 } else { 0x12 }, rows.len() as u8];
+    let mut block = vec![if pitch_speed { 0x17 } else { 0x13 }, rows.len() as u8];
     block.extend([1.0f32; NUMBERS].iter().flat_map(|number| number.to_be_bytes()));
     for factors in rows {
         block.push(0);
@@ -58,7 +60,8 @@ fn block(pitch_speed: bool, rows: &[[f32; 3]]) -> Vec<u8> {
 /// The reply to the block with this number at the row's place.
 fn reply_with(row: &Row, number: f32) -> u64 {
     let mut block = block(row.pitch_speed, &[]);
-    let at = 2 + 4 * (row.place as usize - 1);
+    let before = if row.place < place::LIFT_MAX_THRUST_N { 1 } else { 4 };
+    let at = 2 + 4 * (row.place as usize - before);
     block[at..at + 4].copy_from_slice(&number.to_be_bytes());
     raw::read_airframe(&block)
 }
@@ -70,7 +73,7 @@ fn refused_at(place: u64) -> u64 {
 #[test]
 fn the_table_names_all_places() {
     let places: Vec<u64> = table().iter().map(|row| row.place).collect();
-    let expected: Vec<u64> = (1..=37).chain(37..=NUMBERS as u64).collect();
+    let expected: Vec<u64> = (1..=37).chain(37..=48).chain(52..=57).collect();
     assert_eq!(places, expected);
     for row in table() {
         let kind = match (row.place, row.pitch_speed) {
@@ -143,4 +146,9 @@ fn motor_torques_have_place_50() {
 #[test]
 fn surface_weights_have_place_51() {
     held_to(WEIGHTS, 101.0, place::SURFACE_WEIGHT);
+}
+
+#[test]
+fn lift_torques_have_place_58() {
+    held_to(LIFT_TORQUES, 100.0, place::LIFT_TORQUE);
 }

@@ -1,12 +1,13 @@
 //! The thrust scales of a state, behind its servos: each passes from 0 to 1, no call changes one, and
-//! a state block from before there were any has scales of 1. The older blocks are those of the
-//! folder older beside the sample.
+//! a state block from before there were any, of 116 bytes, has scales of 1. The older blocks are those
+//! of the folder older/116 beside the sample.
 
 use std::path::{Path, PathBuf};
 
 use bench::{
-    AIRFRAME_USED, Answer, REPORT_NUMBERS, REPORT_THRUST, SLOTS, STATE_BYTES, STATE_BYTES_UNSCALED, STATE_MOTORS,
-    STATE_NUMBERS, STATE_RATES, STATE_SCALES, State, TICK_BYTES, TICK_STEP, Tick, raw,
+    AIRFRAME_USED, Answer, REPORT_NUMBERS, REPORT_THRUST, SLOTS, STATE_BYTES, STATE_BYTES_NO_LIFT,
+    STATE_BYTES_UNSCALED, STATE_LIFT, STATE_MOTORS, STATE_NUMBERS, STATE_RATES, STATE_SCALES, State, TICK_BYTES,
+    TICK_STEP, Tick, raw,
 };
 
 use crate::{Motor, Sample, sample};
@@ -33,8 +34,12 @@ fn bits(state: &State) -> [u32; STATE_NUMBERS] {
     state.map(f32::to_bits)
 }
 
+fn scales(state: &State) -> &[f32] {
+    &state[STATE_SCALES..STATE_SCALES + SLOTS]
+}
+
 fn scale_bits(state: &State) -> Vec<u32> {
-    state[STATE_SCALES..].iter().map(|x| x.to_bits()).collect()
+    scales(state).iter().map(|x| x.to_bits()).collect()
 }
 
 /// The sample's state with each of these scales in each slot.
@@ -67,8 +72,9 @@ fn motors_as_built_have_scales_of_1() {
     let mut state = [0.0; STATE_NUMBERS];
     bench::motors_as_built(&mut state);
     assert_eq!(state[..STATE_SCALES], [0.0; STATE_SCALES]);
-    assert_eq!(state[STATE_SCALES..], [1.0; SLOTS]);
-    assert_eq!((STATE_SCALES, STATE_SCALES + SLOTS), (29, STATE_NUMBERS));
+    assert_eq!(scales(&state), [1.0; SLOTS]);
+    assert_eq!(state[STATE_LIFT..], [0.0; SLOTS]);
+    assert_eq!((STATE_SCALES, STATE_SCALES + SLOTS, STATE_LIFT + SLOTS), (29, STATE_LIFT, STATE_NUMBERS));
 }
 
 // ---- Blocks ----
@@ -78,31 +84,32 @@ fn sample_file() -> PathBuf {
 }
 
 /// The bytes of a flight behind its airframe block.
-fn behind_airframe(file: &Path) -> Vec<u8> {
+pub fn behind_airframe(file: &Path) -> Vec<u8> {
     let bytes = std::fs::read(file).unwrap_or_else(|error| panic!("{}: {error}", file.display()));
     bytes[bench::airframe_length(&bytes).expect("a header")..].to_vec()
 }
 
-/// Every flight with an older state block, and the flight of that name.
-fn older() -> Vec<(PathBuf, PathBuf)> {
-    let folder = sample_file().with_file_name("older");
+/// Every flight with a state block of so many bytes, and the flight of that name.
+pub fn older(bytes: usize) -> Vec<(PathBuf, PathBuf)> {
+    let folder = sample_file().with_file_name("older").join(bytes.to_string());
     let entries = std::fs::read_dir(&folder).unwrap_or_else(|error| panic!("{}: {error}", folder.display()));
     let files = entries.map(|entry| entry.expect("an entry").path());
     let flights = files.filter(|file| file.extension().is_some_and(|end| end == "bin"));
     let now = |file: &PathBuf| sample_file().with_file_name(file.file_name().expect("a name"));
-    flights.map(|file| (file.clone(), now(&file))).collect()
+    let both: Vec<(PathBuf, PathBuf)> = flights.map(|file| (file.clone(), now(&file))).collect();
+    assert!(both.iter().any(|(_, now)| *now == sample_file()));
+    both
 }
 
 /// All of them are flights as built; behind the states both go on alike.
 #[test]
 fn older_blocks_are_read_with_scales_of_1() {
-    let flights = older();
-    assert!(flights.iter().any(|(_, now)| *now == sample_file()));
-    for (file, now) in flights {
+    for (file, now) in older(STATE_BYTES_UNSCALED) {
         let (then, now) = (behind_airframe(&file), behind_airframe(&now));
         let ((old, trace), (new, later)) = (then.split_at(STATE_BYTES_UNSCALED), now.split_at(STATE_BYTES));
         let state = bench::read_state(old).unwrap_or_else(|answer| panic!("{}: {answer}", file.display()));
-        assert_eq!(state[STATE_SCALES..], [1.0; SLOTS], "{}", file.display());
+        assert_eq!(scales(&state), [1.0; SLOTS], "{}", file.display());
+        assert_eq!(state[STATE_LIFT..], [0.0; SLOTS], "{}", file.display());
         assert_eq!(bits(&state), bits(&bench::read_state(new).unwrap()), "{}", file.display());
         assert_eq!(bench::write_state(&state), new, "{}", file.display());
         assert_eq!((&new[..STATE_BYTES_UNSCALED], trace), (old, later), "{}", file.display());
@@ -113,14 +120,15 @@ fn older_blocks_are_read_with_scales_of_1() {
 #[test]
 fn blocks_of_another_length_are_refused() {
     let block = [&bench::write_state(&sample().state)[..], &[0; 4]].concat();
-    for length in (0..=block.len()).filter(|length| ![STATE_BYTES_UNSCALED, STATE_BYTES].contains(length)) {
+    let known = [STATE_BYTES_UNSCALED, STATE_BYTES_NO_LIFT, STATE_BYTES];
+    for length in (0..=block.len()).filter(|length| !known.contains(length)) {
         let mut state = [7.0; STATE_NUMBERS];
         assert_eq!(raw::read_state(&block[..length], &mut state), WRONG_LENGTH, "{length} bytes");
         assert_eq!(state, [0.0; STATE_NUMBERS], "{length} bytes");
     }
-    for length in [STATE_BYTES_UNSCALED, STATE_BYTES] {
+    for length in known {
         let mut room = [7.0; STATE_NUMBERS + 1];
-        for numbers in [0, STATE_SCALES, STATE_NUMBERS - 1, STATE_NUMBERS + 1] {
+        for numbers in [0, STATE_SCALES, STATE_LIFT, STATE_NUMBERS - 1, STATE_NUMBERS + 1] {
             assert_eq!(raw::read_state(&block[..length], &mut room[..numbers]), WRONG_LENGTH);
         }
         assert_eq!(room, [7.0; STATE_NUMBERS + 1]);
@@ -149,13 +157,15 @@ fn a_refused_older_block_gives_zeros() {
 #[test]
 fn an_older_block_is_not_written() {
     let state = sample().state;
-    for length in [0, STATE_BYTES_UNSCALED, STATE_BYTES - 1, STATE_BYTES + 1] {
+    for length in [0, STATE_BYTES_UNSCALED, STATE_BYTES_NO_LIFT, STATE_BYTES - 1, STATE_BYTES + 1] {
         let mut block = vec![0xA5; length];
         assert_eq!(raw::write_state(&state, &mut block), WRONG_LENGTH, "{length} bytes");
         assert!(block.iter().all(|byte| *byte == 0xA5), "{length} bytes");
     }
     let mut block = [0xA5; STATE_BYTES];
-    assert_eq!(raw::write_state(&state[..STATE_SCALES], &mut block), WRONG_LENGTH);
+    for numbers in [STATE_SCALES, STATE_LIFT] {
+        assert_eq!(raw::write_state(&state[..numbers], &mut block), WRONG_LENGTH);
+    }
     assert_eq!(block, [0xA5; STATE_BYTES]);
 }
 

@@ -1,6 +1,7 @@
 //! The library's calls on one case, each with what must hold after it.
 
-use bench::{AIRFRAME_NUMBERS, REPORT_NUMBERS, SLOTS, STATE_BYTES, STATE_BYTES_UNSCALED, STATE_NUMBERS, STATE_SCALES};
+use bench::{AIRFRAME_LIFT, AIRFRAME_LIFT_PLACES, AIRFRAME_LIFT_USED, AIRFRAME_NUMBERS, HEADER_LIFT, REPORT_NUMBERS, SLOTS};
+use bench::{STATE_BYTES, STATE_BYTES_NO_LIFT, STATE_BYTES_UNSCALED, STATE_LIFT, STATE_NUMBERS, STATE_SCALES};
 use bench::{TICK_BYTES, TICK_NUMBERS, place, raw};
 
 use crate::guarded::{Element, Guarded};
@@ -56,7 +57,7 @@ fn made(counts: &mut Counts, call: usize, run: impl FnOnce() -> u64) -> Result<u
     watch::end();
     let (answer, place) = (reply % 16, reply / 16);
     let known = match answer {
-        6 => (1..=51).contains(&place),
+        6 => (1..=58).contains(&place),
         _ => answer < 11 && place == 0,
     };
     hold(known, call, &format!("reply {reply}"))?;
@@ -110,8 +111,26 @@ fn prepare(counts: &mut Counts, case: &Case, read: u64) -> Held {
     let exponent = row.content().get(place::THRUST_EXPONENT as usize - 1);
     let good = reply != 0 || exponent.is_some_and(|x| (1.0..=3.0).contains(x));
     hold(good, PREPARE, "accepted a thrust exponent beyond its limits")?;
+    let good = reply != 0 || lift_of(block.content(), row.content());
+    hold(good, PREPARE, "other lift rotors than its header announces, or beyond their limits")?;
     let same = case.airframe.len() != AIRFRAME_NUMBERS || reply == read;
     hold(same, PREPARE, "another reply than bench_read_airframe")
+}
+
+/// Whether a block's header announces lift numbers.
+fn announces_lift(block: &[u8]) -> bool {
+    block.first().is_some_and(|first| usize::from(*first) & HEADER_LIFT != 0)
+}
+
+/// Whether the lift rotors of an accepted airframe's row are those that its block announces: none and
+/// nothing but zeros, or some with an exponent within its limits and marks of 0 or 1.
+fn lift_of(block: &[u8], row: &[f32]) -> bool {
+    let lift = &row[AIRFRAME_LIFT_PLACES..];
+    if !announces_lift(block) {
+        return lift.iter().all(|x| *x == 0.0);
+    }
+    let mut marks = row[AIRFRAME_LIFT_USED..AIRFRAME_LIFT_USED + SLOTS].iter();
+    row[AIRFRAME_LIFT] == 1.0 && (1.0..=3.0).contains(&lift[1]) && marks.all(|x| [0.0, 1.0].contains(x))
 }
 
 fn read_state(counts: &mut Counts, case: &Case) -> Held {
@@ -122,7 +141,7 @@ fn read_state(counts: &mut Counts, case: &Case) -> Held {
     })?;
     left(&block, READ_STATE)?;
     read_into(&row, STATE_NUMBERS, reply, READ_STATE)?;
-    let known = [STATE_BYTES, STATE_BYTES_UNSCALED].contains(&case.state_block.len());
+    let known = [STATE_BYTES, STATE_BYTES_NO_LIFT, STATE_BYTES_UNSCALED].contains(&case.state_block.len());
     let length = case.state.len() == STATE_NUMBERS && known;
     hold(length == (reply != 1), READ_STATE, "wrong about a length")?;
     let good = reply != 0 || state_of(block.content(), row.content());
@@ -133,16 +152,24 @@ fn scales(row: &[f32]) -> &[f32] {
     &row[STATE_SCALES..STATE_SCALES + SLOTS]
 }
 
-/// Whether an accepted state's row is its block's, with scales of 1 where the block has none, and
-/// has all scales within their limits.
-fn state_of(block: &[u8], row: &[f32]) -> bool {
-    let built = block.len() != STATE_BYTES_UNSCALED || scales(row).iter().all(|x| *x == 1.0);
-    built && written(block, row) && scales(row).iter().all(|x| (0.0..=1.0).contains(x))
+fn lifting(row: &[f32]) -> &[f32] {
+    &row[STATE_LIFT..STATE_LIFT + SLOTS]
 }
 
-/// Whether a state's row has another's scales, but for a NaN's bits.
-fn same_scales(row: &[f32], start: &[f32]) -> bool {
-    let mut pairs = scales(row).iter().zip(scales(start));
+/// Whether an accepted state's row is its block's, with scales of 1 and lift rotors of 0 where the block
+/// has none, and has all of them within their limits.
+fn state_of(block: &[u8], row: &[f32]) -> bool {
+    let built = block.len() != STATE_BYTES_UNSCALED || scales(row).iter().all(|x| *x == 1.0);
+    let still = block.len() == STATE_BYTES || lifting(row).iter().all(|x| *x == 0.0);
+    let mut both = scales(row).iter().chain(lifting(row));
+    built && still && written(block, row) && both.all(|x| (0.0..=1.0).contains(x))
+}
+
+/// Whether a state's row has of another's what no tick changes, but for a NaN's bits: the scales and,
+/// where there are no lift numbers, the lift rotors' running values.
+fn same_kept(row: &[f32], start: &[f32], lifted: bool) -> bool {
+    let end = if lifted { STATE_LIFT } else { STATE_NUMBERS };
+    let mut pairs = row[STATE_SCALES..end].iter().zip(&start[STATE_SCALES..end]);
     pairs.all(|(x, y)| x.to_bits() == y.to_bits() || (x.is_nan() && y.is_nan()))
 }
 
@@ -231,16 +258,16 @@ impl TickRows {
         wind.is_some_and(|wind| wind.iter().all(|x| x.abs() <= 200.0))
     }
 
-    /// What must hold of them after a tick.
-    fn after(&self, fit: bool, reply: u64, call: usize) -> Held {
+    /// What must hold of them after a tick of an airframe with lift numbers, or without.
+    fn after(&self, fit: bool, lifted: bool, reply: u64, call: usize) -> Held {
         left(&self.tick, call)?;
         whole(&self.state, call)?;
         whole(&self.report, call)?;
         if reply == 0 {
             hold(fit, call, "took a row of another length")?;
             hold(self.wind_usable(), call, "flew in an unusable wind")?;
-            let kept = same_scales(self.state.content(), self.state.found());
-            hold(kept, call, "changed a thrust scale")?;
+            let kept = same_kept(self.state.content(), self.state.found(), lifted);
+            hold(kept, call, "changed a thrust scale, or a lift rotor without lift numbers")?;
             return hold(inside(self.state.content()), call, "a state outside");
         }
         hold(reply != 10 || !self.wind_usable(), call, "refused a usable wind")?;
@@ -267,7 +294,7 @@ fn tick(counts: &mut Counts, case: &Case) -> Result<(u64, Vec<f32>), String> {
         )
     })?;
     left(&block, TICK)?;
-    rows.after(rows.fit(), reply, TICK)?;
+    rows.after(rows.fit(), announces_lift(&case.block), reply, TICK)?;
     Ok((reply, rows.state.content().to_vec()))
 }
 
@@ -284,7 +311,8 @@ fn prepared_tick(counts: &mut Counts, case: &Case, row: &[f32]) -> Result<(u64, 
         )
     })?;
     left(&airframe, TICK_PREPARED)?;
-    rows.after(rows.fit() && row.len() == AIRFRAME_NUMBERS, reply, TICK_PREPARED)?;
+    let lifted = row.get(AIRFRAME_LIFT).is_some_and(|x| *x != 0.0);
+    rows.after(rows.fit() && row.len() == AIRFRAME_NUMBERS, lifted, reply, TICK_PREPARED)?;
     Ok((reply, rows.state.content().to_vec()))
 }
 
@@ -316,7 +344,7 @@ fn run_reply(case: &Case, fit: bool, read: u64) -> u64 {
     }
 }
 
-/// A run's end state; its thrust scales are those of the case's state, in the reflection too.
+/// A run's end state; what no tick changes is as in the case's state, in the reflection too.
 fn after_run(row: &Guarded<f32>, reply: u64, count: u64, case: &Case, call: usize) -> Held {
     whole(row, call)?;
     let most = case.trace.len() as u64 / TICK_BYTES as u64;
@@ -325,8 +353,8 @@ fn after_run(row: &Guarded<f32>, reply: u64, count: u64, case: &Case, call: usiz
         hold(count == 0, call, "refused, but counts ticks")?;
         return left(row, call);
     }
-    let kept = same_scales(row.content(), &case.state);
-    hold(kept, call, "changed a thrust scale")?;
+    let kept = same_kept(row.content(), &case.state, announces_lift(&case.block));
+    hold(kept, call, "changed a thrust scale, or a lift rotor without lift numbers")?;
     let held = count == 0 || inside(row.content());
     hold(held, call, "a state outside")
 }

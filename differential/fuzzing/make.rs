@@ -1,7 +1,7 @@
 //! Bytes and rows to hand to the library: random ones, and valid ones damaged.
 
-use bench::{AIRFRAME_BYTES, MOST_ROWS, REPORT_NUMBERS, ROW_BYTES, STATE_BYTES_UNSCALED, STATE_NUMBERS, TICK_BYTES};
-use bench::{TICK_NUMBERS, WASH_BYTES};
+use bench::{AIRFRAME_BYTES, HEADER_LIFT, LIFT_BYTES, MOST_ROWS, REPORT_NUMBERS, ROW_BYTES, WASH_BYTES};
+use bench::{STATE_BYTES_NO_LIFT, STATE_BYTES_UNSCALED, STATE_NUMBERS, TICK_BYTES, TICK_NUMBERS};
 
 use crate::rng::Rng;
 use crate::seeds::Flight;
@@ -64,10 +64,11 @@ fn random_bytes(rng: &mut Rng, length: usize) -> Vec<u8> {
 /// Random bytes behind a header that is in order: as many rows as the length has room for.
 fn behind_header(rng: &mut Rng, length: usize) -> Vec<u8> {
     let mut bytes = random_bytes(rng, length);
-    let wash = rng.below(2);
-    let rows = (length.saturating_sub(AIRFRAME_BYTES + WASH_BYTES * wash) / ROW_BYTES).min(MOST_ROWS);
+    let (wash, lift) = (rng.below(2), rng.below(2));
+    let start = AIRFRAME_BYTES + WASH_BYTES * wash + LIFT_BYTES * lift;
+    let rows = (length.saturating_sub(start) / ROW_BYTES).min(MOST_ROWS);
     if length >= 2 {
-        bytes[0] = 0x10 | (rng.below(2) << 2 | wash << 1) as u8;
+        bytes[0] = 0x10 | (rng.below(2) << 2 | wash << 1 | HEADER_LIFT * lift) as u8;
         bytes[1] = rows as u8;
     }
     bytes
@@ -164,9 +165,10 @@ fn tick_block(trace: &[u8]) -> Vec<u8> {
     block
 }
 
-/// The state's block, or one time in three without its thrust scales.
+/// The state's block, one time in four without its lift rotors, and one time in four without its thrust
+/// scales too.
 fn state_block(rng: &mut Rng, state: &[u8]) -> Vec<u8> {
-    let bytes = if rng.once_in(3) { STATE_BYTES_UNSCALED } else { state.len() };
+    let bytes = rng.pick(&[state.len(), state.len(), STATE_BYTES_NO_LIFT, STATE_BYTES_UNSCALED]);
     state[..bytes].to_vec()
 }
 

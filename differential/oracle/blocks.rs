@@ -6,18 +6,24 @@ use stable_flight::mixers::{MixRow, Slot, TableMixer};
 
 use crate::limits;
 use crate::motors::{MotorLayout, Motors};
+use crate::quadplane_model::LiftRotors;
 use crate::surfaces::Surfaces;
+use crate::wing::FixedWing;
 
 pub const SLOTS: usize = 8;
 pub const AIRFRAME_NUMBERS: usize = 41;
 pub const WASH_NUMBERS: usize = 7;
+pub const LIFT_NUMBERS: usize = 6;
+/// The place of the first lift number.
+pub const LIFT_PLACE: usize = 52;
 pub const HEADER_BYTES: usize = 2;
 pub const ROW_BYTES: usize = 13;
-pub const STATE_NUMBERS: usize = 37;
+pub const STATE_NUMBERS: usize = 45;
 pub const TICK_NUMBERS: usize = 20;
 pub const STATE_BYTES: usize = 4 * STATE_NUMBERS;
-/// A state block from before there were thrust scales.
-pub const UNSCALED_BYTES: usize = STATE_BYTES - 4 * SLOTS;
+/// A state block from before there were lift rotors, and one from before there were thrust scales.
+pub const NO_LIFT_BYTES: usize = STATE_BYTES - 4 * SLOTS;
+pub const UNSCALED_BYTES: usize = NO_LIFT_BYTES - 4 * SLOTS;
 pub const TICK_BYTES: usize = 4 * TICK_NUMBERS;
 const MOST_ROWS: usize = 16;
 
@@ -34,7 +40,8 @@ impl Refusal {
     }
 }
 
-/// An airframe value. Numbers by place: `numbers[0]` has place 1, `wash[0]` place 42.
+/// An airframe value. Numbers by place: `numbers[0]` has place 1, `wash[0]` place 42, `lift[0]`
+/// place 52.
 #[derive(Debug, Clone, PartialEq)]
 pub struct Airframe {
     pub pitch_speed: bool,
@@ -43,10 +50,14 @@ pub struct Airframe {
     pub used: [bool; SLOTS],
     pub torques: [Vec3; SLOTS],
     pub weights: [Vec3; SLOTS],
+    pub lift: Option<[f32; LIFT_NUMBERS]>,
+    pub lift_used: [bool; SLOTS],
+    pub lift_torques: [Vec3; SLOTS],
 }
 
 impl Airframe {
-    /// What a refused read returns: zeros, Linear, with neither wash nor used motors.
+    /// What a refused read returns: zeros, Linear, with neither wash nor lift numbers, and no motor of
+    /// either group used.
     pub fn zero() -> Self {
         Airframe {
             pitch_speed: false,
@@ -55,6 +66,9 @@ impl Airframe {
             used: [false; SLOTS],
             torques: [Vec3::zeros(); SLOTS],
             weights: [Vec3::zeros(); SLOTS],
+            lift: None,
+            lift_used: [false; SLOTS],
+            lift_torques: [Vec3::zeros(); SLOTS],
         }
     }
 
@@ -86,7 +100,17 @@ impl Airframe {
         if !all_within(&self.weights, limits::WEIGHT) {
             return Some(limits::WEIGHT_PLACE);
         }
-        None
+        self.bad_lift_place()
+    }
+
+    /// The same of the lift rotors; without lift numbers nothing of them is tested.
+    fn bad_lift_place(&self) -> Option<u8> {
+        for (place, number) in (LIFT_PLACE..).zip(self.lift?) {
+            if !limits::within(number, limits::airframe(place, self.pitch_speed)) {
+                return Some(place as u8);
+            }
+        }
+        (!all_within(&self.lift_torques, limits::TORQUE)).then_some(limits::LIFT_TORQUE_PLACE)
     }
 
     /// Test 6 on an airframe value, read or hand-made.
@@ -113,11 +137,12 @@ fn all_within(vectors: &[Vec3], range: limits::Range) -> bool {
 pub struct Header {
     pitch_speed: bool,
     wash: bool,
+    lift: bool,
     rows: usize,
 }
 
 impl Header {
-    /// Version 4 bits, falloff kind 2, wash 1, reserved 4, row count 5.
+    /// Version 4 bits, falloff kind 2, wash 1, lift 1, reserved 3, row count 5.
     pub fn read(bytes: &[u8]) -> Result<Self, Refusal> {
         let [first, second, ..] = *bytes else {
             return Err(Refusal::of(limits::LENGTH));
@@ -130,7 +155,7 @@ impl Header {
         if kind > 1 {
             return Err(Refusal::of(limits::FALLOFF_KIND));
         }
-        if bits >> 5 & 0b1111 != 0 {
+        if bits >> 5 & 0b111 != 0 {
             return Err(Refusal::of(limits::RESERVED));
         }
         let rows = usize::from(bits & 0b11111);
@@ -140,14 +165,25 @@ impl Header {
         Ok(Header {
             pitch_speed: kind == 1,
             wash: bits >> 9 & 1 == 1,
+            lift: bits >> 8 & 1 == 1,
             rows,
         })
     }
 
+    /// Where the lift numbers start, and where the rows do.
+    fn lift_at(&self) -> usize {
+        let wash = if self.wash { 4 * WASH_NUMBERS } else { 0 };
+        HEADER_BYTES + 4 * AIRFRAME_NUMBERS + wash
+    }
+
+    fn rows_at(&self) -> usize {
+        let lift = if self.lift { 4 * LIFT_NUMBERS } else { 0 };
+        self.lift_at() + lift
+    }
+
     /// The whole block's length in bytes.
     pub fn length(&self) -> usize {
-        let wash = if self.wash { 4 * WASH_NUMBERS } else { 0 };
-        HEADER_BYTES + 4 * AIRFRAME_NUMBERS + wash + ROW_BYTES * self.rows
+        self.rows_at() + ROW_BYTES * self.rows
     }
 }
 
@@ -160,19 +196,29 @@ fn numbers<const N: usize>(bytes: &[u8], at: usize) -> [f32; N] {
     core::array::from_fn(|place| number(bytes, at + 4 * place))
 }
 
-/// A row: the kind in bit 7 of its first byte, the slot in bits 6..4; then three factors.
-fn read_row(bytes: &[u8]) -> Result<MixRow, Refusal> {
+/// A row as the originals have it, and whether it is a lift rotor's: there it is a motor's.
+#[derive(Debug, Clone, Copy, PartialEq)]
+pub struct Row {
+    pub lift: bool,
+    pub mix: MixRow,
+}
+
+/// A row: the kind in bit 7 of its first byte, the slot in bits 6..4, lift rotor in bit 3; then three
+/// factors. Bit 3 is a motor's alone, and only where there are lift numbers.
+fn read_row(bytes: &[u8], lift_numbers: bool) -> Result<Row, Refusal> {
     let head = bytes[0];
-    if head & 0b1111 != 0 {
+    let (servo, lift) = (head >> 7 == 1, head >> 3 & 1 == 1);
+    if head & 0b111 != 0 || lift && (servo || !lift_numbers) {
         return Err(Refusal::of(limits::RESERVED));
     }
     let slot = head >> 4 & 0b111;
-    let slot = if head >> 7 == 1 {
+    let slot = if servo {
         Slot::Servo(slot)
     } else {
         Slot::Motor(slot)
     };
-    Ok(MixRow::new(slot, numbers(bytes, 1)))
+    let mix = MixRow::new(slot, numbers(bytes, 1));
+    Ok(Row { lift, mix })
 }
 
 pub fn read_airframe(bytes: &[u8]) -> Result<Airframe, Refusal> {
@@ -181,15 +227,15 @@ pub fn read_airframe(bytes: &[u8]) -> Result<Airframe, Refusal> {
         return Err(Refusal::of(limits::LENGTH));
     }
     let wash_at = HEADER_BYTES + 4 * AIRFRAME_NUMBERS;
-    let rows_at = header.length() - ROW_BYTES * header.rows;
-    let rows = bytes[rows_at..]
+    let rows = bytes[header.rows_at()..]
         .chunks(ROW_BYTES)
-        .map(read_row)
-        .collect::<Result<Vec<MixRow>, Refusal>>()?;
+        .map(|row| read_row(row, header.lift))
+        .collect::<Result<Vec<Row>, Refusal>>()?;
     let mut airframe = Airframe {
         pitch_speed: header.pitch_speed,
         numbers: numbers(bytes, HEADER_BYTES),
         wash: header.wash.then(|| numbers(bytes, wash_at)),
+        lift: header.lift.then(|| numbers(bytes, header.lift_at())),
         ..Airframe::zero()
     };
     if let Some(refusal) = refused_at(airframe.bad_place(good_factors(&rows))) {
@@ -199,33 +245,66 @@ pub fn read_airframe(bytes: &[u8]) -> Result<Airframe, Refusal> {
     Ok(airframe)
 }
 
-fn good_factors(rows: &[MixRow]) -> bool {
+fn good_factors(rows: &[Row]) -> bool {
     rows.iter()
-        .flat_map(|row| [row.roll(), row.pitch(), row.yaw()])
+        .flat_map(|row| [row.mix.roll(), row.mix.pitch(), row.mix.yaw()])
         .all(limits::row_factor)
 }
 
-/// Lays the rows out on the airframe with the originals, which take them as an array: one arm
-/// for each row count.
-pub(crate) fn mix(airframe: &mut Airframe, rows: &[MixRow]) {
-    macro_rules! by_count {
-        ($($count:literal)*) => {
-            match rows.len() {
-                $($count => mix_array::<$count>(airframe, core::array::from_fn(|i| rows[i])),)*
-                count => panic!("{count} rows"),
-            }
-        };
-    }
-    by_count!(0 1 2 3 4 5 6 7 8 9 10 11 12 13 14 15 16)
+/// Calls what lays rows out with the originals, which take them as an array: one arm for each row
+/// count.
+macro_rules! with_array {
+    ($rows:expr, $lay_out:ident, $airframe:expr) => {
+        with_array!($rows, $lay_out, $airframe, 0 1 2 3 4 5 6 7 8 9 10 11 12 13 14 15 16)
+    };
+    ($rows:expr, $lay_out:ident, $airframe:expr, $($count:literal)*) => {
+        match $rows.len() {
+            $($count => $lay_out::<$count>($airframe, core::array::from_fn(|i| $rows[i])),)*
+            count => panic!("{count} rows"),
+        }
+    };
+}
+
+/// Lays the rows out on the airframe: each group gets its own, in their order.
+pub(crate) fn mix(airframe: &mut Airframe, rows: &[Row]) {
+    let of = |lift| -> Vec<MixRow> {
+        let own = rows.iter().filter(|row| row.lift == lift);
+        own.map(|row| row.mix).collect()
+    };
+    let (forward, lift) = (of(false), of(true));
+    with_array!(forward, mix_forward, airframe);
+    with_array!(lift, mix_lift, airframe);
 }
 
 /// Place 40 is the layout's arm and place 41 its yaw torque.
-fn mix_array<const N: usize>(airframe: &mut Airframe, rows: [MixRow; N]) {
+fn mix_forward<const N: usize>(airframe: &mut Airframe, rows: [MixRow; N]) {
     let mixer = TableMixer::new(rows);
     let motors = Motors::new(mixer.rows(), &layout(airframe));
     airframe.used = motors.used();
     airframe.torques = motors.torques();
     airframe.weights = Surfaces::new(mixer.rows()).weights();
+}
+
+/// The slots of the original lift group of these rows; without lift numbers there is none.
+fn mix_lift<const N: usize>(airframe: &mut Airframe, rows: [MixRow; N]) {
+    if let Some(numbers) = airframe.lift {
+        let motors = FixedWing::lift_motors_of(&TableMixer::new(rows), rotors(numbers));
+        airframe.lift_used = motors.used();
+        airframe.lift_torques = motors.torques();
+    }
+}
+
+/// Places 52 to 57. Of the drag the originals make a number over all rotors' full thrust, and so a wing
+/// gets place 57 put in as it stands.
+pub(crate) fn rotors(numbers: [f32; LIFT_NUMBERS]) -> LiftRotors {
+    let [max_thrust, exponent, arm, yaw_torque, time_constant, drag] = numbers;
+    let layout = MotorLayout {
+        moment_arm_m: arm,
+        yaw_torque_per_thrust_m: yaw_torque,
+        max_thrust_n: max_thrust,
+        thrust_exponent: exponent,
+    };
+    LiftRotors::new(layout, time_constant, drag)
 }
 
 pub(crate) fn layout(airframe: &Airframe) -> MotorLayout {
@@ -247,26 +326,32 @@ pub struct State {
     pub motors: [f32; SLOTS],
     pub servos: [f32; SLOTS],
     pub thrust_scale: [f32; SLOTS],
+    pub lift_motors: [f32; SLOTS],
 }
 
 impl State {
     /// What a refused read returns.
     pub fn zero() -> Self {
-        Self::from_numbers(&[0; UNSCALED_BYTES], [0.0; SLOTS])
+        Self::from_numbers(&[0; UNSCALED_BYTES], [0.0; SLOTS], [0.0; SLOTS])
     }
 
-    /// The numbers of a block, not tested: 148 bytes have them all, 116 have no thrust scales,
-    /// which then are 1; none for any other length.
+    /// The numbers of a block, not tested: 180 bytes have them all; 148 have no running values of lift
+    /// rotors, which then are 0; 116 have no thrust scales either, which then are 1; none for any
+    /// other length.
     pub fn of_block(bytes: &[u8]) -> Option<Self> {
-        let thrust_scale = match bytes.len() {
-            STATE_BYTES => numbers(bytes, UNSCALED_BYTES),
-            UNSCALED_BYTES => [1.0; SLOTS],
+        let (thrust_scale, lift_motors) = match bytes.len() {
+            STATE_BYTES => (
+                numbers(bytes, UNSCALED_BYTES),
+                numbers(bytes, NO_LIFT_BYTES),
+            ),
+            NO_LIFT_BYTES => (numbers(bytes, UNSCALED_BYTES), [0.0; SLOTS]),
+            UNSCALED_BYTES => ([1.0; SLOTS], [0.0; SLOTS]),
             _ => return None,
         };
-        Some(Self::from_numbers(bytes, thrust_scale))
+        Some(Self::from_numbers(bytes, thrust_scale, lift_motors))
     }
 
-    fn from_numbers(bytes: &[u8], thrust_scale: [f32; SLOTS]) -> Self {
+    fn from_numbers(bytes: &[u8], thrust_scale: [f32; SLOTS], lift_motors: [f32; SLOTS]) -> Self {
         State {
             position: numbers(bytes, 0),
             velocity: numbers(bytes, 12),
@@ -275,6 +360,7 @@ impl State {
             motors: numbers(bytes, 52),
             servos: numbers(bytes, 84),
             thrust_scale,
+            lift_motors,
         }
     }
 
@@ -288,6 +374,7 @@ impl State {
             &self.motors,
             &self.servos,
             &self.thrust_scale,
+            &self.lift_motors,
         ]
         .concat()
     }
@@ -303,6 +390,7 @@ impl State {
             && all(&self.motors, limits::MOTOR)
             && all(&self.servos, limits::SERVO)
             && all(&self.thrust_scale, limits::SCALE)
+            && all(&self.lift_motors, limits::MOTOR)
     }
 }
 
@@ -328,7 +416,7 @@ fn write(numbers: &[f32], bytes: &mut [u8]) -> Result<(), Refusal> {
     Ok(())
 }
 
-/// Writes `state` into 148 bytes lent.
+/// Writes `state` into 180 bytes lent.
 pub fn write_state(state: &State, bytes: &mut [u8]) -> Result<(), Refusal> {
     write(&state.numbers(), bytes)
 }

@@ -3,7 +3,7 @@
 
 use stable_flight::ActuatorCommand;
 
-use crate::blocks::{Airframe, State, Tick};
+use crate::blocks::{Airframe, SLOTS, State, Tick};
 use crate::body::Body;
 use crate::limits;
 use crate::lockstep::Dynamics;
@@ -25,6 +25,8 @@ pub struct Driver {
     airframe: Airframe,
     wing: FixedWing,
     body: Body,
+    /// The lift rotors' running values where the airframe has no lift numbers.
+    unlifted: [f32; SLOTS],
     tests: Tests,
 }
 
@@ -38,12 +40,13 @@ impl Driver {
             airframe: airframe.clone(),
             wing: wing(airframe, state),
             body: body(state),
+            unlifted: state.lift_motors,
             tests,
         })
     }
 
     pub fn state(&mut self) -> State {
-        state_after(&self.body, &mut self.wing)
+        state_after(&self.body, &mut self.wing, self.unlifted)
     }
 
     /// One tick; says whether it was accepted. A refused one leaves the state.
@@ -86,6 +89,8 @@ impl Driver {
         self.body = body(state);
         self.wing.motors_mut().set_running(state.motors);
         self.wing.surfaces_mut().set_running(state.servos);
-        self.wing.set_thrust_scale(state.thrust_scale);
+        if let Some(lift) = self.wing.lift_mut() {
+            lift.set_running(state.lift_motors);
+        }
     }
 }

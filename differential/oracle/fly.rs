@@ -20,7 +20,7 @@ fn refused(refusal: Refusal) -> String {
 }
 
 /// The airframe, whose header gives its length, the state of all its bytes, which fly takes and no
-/// fewer (02, 2), and the bytes after them.
+/// fewer (02, 5), and the bytes after them.
 fn read_start(input: &[u8]) -> Result<(Airframe, State, &[u8]), Refusal> {
     let length = Header::read(input)?.length();
     let (block, rest) = split(input, length)?;

@@ -1,5 +1,7 @@
 //! Document 01's cases: "Flown by hand" and the examples of "What the bench replies"; and document
-//! 02's refused winds, thrust scales and thrust exponents.
+//! 02's refused winds, thrust scales, thrust exponents and, in `lift`, lift rotors.
+
+pub mod lift;
 
 use core::hint::black_box;
 
@@ -8,10 +10,10 @@ use stable_flight::mixers::{MixRow, Slot};
 
 use crate::aero;
 use crate::arguments::{EXPONENTS, TURNING};
-use crate::blocks::{Airframe, Refusal, SLOTS, STATE_BYTES, State, Tick, UNSCALED_BYTES};
-use crate::blocks::{mix, read_airframe, read_state, write_state};
+use crate::blocks::{self, Airframe, NO_LIFT_BYTES, Refusal, SLOTS, STATE_BYTES, State, Tick};
+use crate::blocks::{UNSCALED_BYTES, mix, read_airframe, read_state, write_state};
 use crate::fly::fly;
-use crate::inputs::{AirframeBlock, Row, push, state_bytes};
+use crate::inputs::{AirframeBlock, motor, push, state_bytes};
 use crate::lag;
 use crate::limits;
 use crate::tick::{self, Report, falloff, model, run};
@@ -37,6 +39,7 @@ pub fn check() -> bool {
         powers(),
         exponents(),
         pulls(),
+        lift::all(),
         flights(),
     ]
     .concat();
@@ -88,6 +91,7 @@ pub fn plain() -> AirframeBlock {
         pitch_speed: false,
         numbers,
         wash: None,
+        lift: None,
         rows: Vec::new(),
     }
 }
@@ -143,18 +147,23 @@ fn functions() -> Vec<Case> {
     ]
 }
 
+/// A row as it is read, of no lift rotor.
+fn mixed(slot: Slot, factors: [f32; 3]) -> blocks::Row {
+    blocks::Row {
+        lift: false,
+        mix: MixRow::new(slot, factors),
+    }
+}
+
 fn one_servo() -> Airframe {
     let mut airframe = airframe_of(&plain());
-    mix(
-        &mut airframe,
-        &[MixRow::new(Slot::Servo(3), [0.5, 0.0, 0.0])],
-    );
+    mix(&mut airframe, &[mixed(Slot::Servo(3), [0.5, 0.0, 0.0])]);
     airframe
 }
 
 fn twice() -> Airframe {
-    let first = MixRow::new(Slot::Motor(2), [1.0, 0.5, 0.25]);
-    let later = MixRow::new(Slot::Motor(2), [0.0, -1.0, 2.0]);
+    let first = mixed(Slot::Motor(2), [1.0, 0.5, 0.25]);
+    let later = mixed(Slot::Motor(2), [0.0, -1.0, 2.0]);
     let mut airframe = airframe_of(&plain());
     airframe.numbers[39] = 0.5;
     airframe.numbers[40] = 0.25;
@@ -191,13 +200,8 @@ fn headed(first: u8, second: u8) -> Vec<u8> {
 }
 
 fn with_rows(count: usize) -> Vec<u8> {
-    let row = Row {
-        servo: false,
-        slot: 0,
-        factors: [0.0; 3],
-    };
     let mut block = plain();
-    block.rows = vec![row; count];
+    block.rows = vec![motor(0, [0.0; 3]); count];
     block.bytes()
 }
 
@@ -221,7 +225,8 @@ fn replies() -> Vec<Case> {
         ("first byte 20 hex: 2", reads(&headed(0x20, 0), 2, 0)),
         ("first byte 18 hex: 3", reads(&headed(0x18, 0), 3, 0)),
         ("second byte 20 hex: 4", reads(&headed(0x10, 0x20), 4, 0)),
-        ("first byte 11 hex: 4", reads(&headed(0x11, 0), 4, 0)),
+        ("second byte 40 hex: 4", reads(&headed(0x10, 0x40), 4, 0)),
+        ("second byte 80 hex: 4", reads(&headed(0x10, 0x80), 4, 0)),
         ("a reserved bit in a row: 4", reads(&row_bit, 4, 0)),
         ("second byte 11 hex: 5", reads(&headed(0x10, 0x11), 5, 0)),
         ("mass NaN: 6, place 1", reads(&no_mass.bytes(), 6, 1)),
@@ -461,28 +466,28 @@ fn scale_blocks() -> Vec<Case> {
     let reads = |state: &State| read_state(&state_bytes(state));
     vec![
         (
-            "a state block of 148 bytes: its scales",
-            read_state(&block[..148]) == Ok(tired),
+            "state blocks of 180 and of 148 bytes: their scales",
+            [180, 148].map(|length| read_state(&block[..length])) == [Ok(tired); 2],
         ),
         (
             "a state block of 116 bytes: scales of 1",
             read_state(&block[..116]) == Ok(at_rest()),
         ),
         (
-            "0, 115, 117, 147, 149 bytes: 1",
-            [0, 115, 117, 147, 149].into_iter().all(refused),
+            "0, 115, 117, 147, 149, 179, 181 bytes: 1",
+            [0, 115, 117, 147, 149, 179, 181].into_iter().all(refused),
         ),
         (
-            "a state block has 148 bytes, the older one 116",
-            (STATE_BYTES, UNSCALED_BYTES) == (148, 116),
+            "a state block has 180 bytes, older ones 148 and 116",
+            [STATE_BYTES, NO_LIFT_BYTES, UNSCALED_BYTES] == [180, 148, 116],
         ),
         (
             "a refused state block: scales of 0",
             State::zero().thrust_scale == [0.0; SLOTS],
         ),
         (
-            "116, 147, 149 bytes lent for a state: left as found",
-            [116, 147, 149].into_iter().all(unwritten),
+            "116, 147, 148, 149, 179, 181 bytes lent for a state: left as found",
+            [116, 147, 148, 149, 179, 181].into_iter().all(unwritten),
         ),
         (
             "a block with a scale at its limits, in each slot: 0",
@@ -568,13 +573,8 @@ pub fn pitched() -> AirframeBlock {
 /// Two motors at half command that turn the nose to the right and to the left, 1 Nm for each N, the
 /// second half as strong as the first.
 pub fn lopsided() -> (AirframeBlock, State) {
-    let motor = |slot, yaw| Row {
-        servo: false,
-        slot,
-        factors: [0.0, 0.0, yaw],
-    };
     let mut block = plain();
-    block.rows = vec![motor(0, 1.0), motor(1, -1.0)];
+    block.rows = vec![motor(0, [0.0, 0.0, 1.0]), motor(1, [0.0, 0.0, -1.0])];
     let mut state = at_rest();
     state.motors[..2].fill(0.5);
     state.thrust_scale[1] = 0.5;
@@ -825,8 +825,8 @@ const NO_FALL: [&str; 2] = [
      00000000 00000000 00000000 00000000",
 ];
 
-/// The lines of a fall with a state of 116 bytes: fly takes 148, and the tick then begins in the middle
-/// of the first one, with a step of 0.
+/// The lines of a fall with a state of 148 or 116 bytes: fly takes 180, and the tick then begins in the
+/// middle of the first one, with a step of 0.
 const OLDER_FALL: [&str; 2] = [
     "1 8 00000000 00000000 00000000 00000000 00000000 00000000 3F800000 00000000 00000000 \
      00000000 00000000 00000000 00000000",
@@ -851,10 +851,11 @@ pub fn fall() -> Vec<u8> {
     fall_in([[0.0; 3], [0.0, 0.0, fallen]])
 }
 
-/// The fall without its thrust scales.
-pub fn older_fall() -> Vec<u8> {
+/// The falls with states of 148 and of 116 bytes.
+pub fn older_falls() -> [Vec<u8>; 2] {
     let (fall, at) = (fall(), plain().bytes().len());
-    [&fall[..at + UNSCALED_BYTES], &fall[at + STATE_BYTES..]].concat()
+    let ticks = &fall[at + STATE_BYTES..];
+    [NO_LIFT_BYTES, UNSCALED_BYTES].map(|kept| [&fall[..at + kept], ticks].concat())
 }
 
 pub fn fall_in_nan() -> Vec<u8> {
@@ -880,12 +881,13 @@ fn flights() -> Vec<Case> {
         ("fly of nothing", fly(&[]) == ["0 1 0"]),
         ("fly of a bad header alone", fly(&[0x20, 0]) == ["0 2 0"]),
         ("fly of a short airframe", fly(&fall[..165]) == ["0 1 0"]),
-        ("fly of a short state", fly(&fall[..313]) == ["0 1 0"]),
+        ("fly of a short state", fly(&fall[..345]) == ["0 1 0"]),
         ("fly of 116 bytes of state", fly(&fall[..282]) == ["0 1 0"]),
+        ("fly of 148 bytes of state", fly(&fall[..314]) == ["0 1 0"]),
         (
-            "fly of 116 bytes of state and two ticks: it takes 148",
-            fly(&older_fall()) == OLDER_FALL,
+            "fly of 148 or 116 bytes of state and two ticks: it takes 180",
+            older_falls().map(|fall| fly(&fall)) == [OLDER_FALL; 2],
         ),
-        ("fly without ticks", fly(&fall[..314]).is_empty()),
+        ("fly without ticks", fly(&fall[..346]).is_empty()),
     ]
 }

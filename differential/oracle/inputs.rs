@@ -3,18 +3,37 @@
 
 use crate::arguments::{SPECIAL, TURNING, exponent};
 use crate::blocks::{
-    AIRFRAME_NUMBERS, SLOTS, STATE_BYTES, State, TICK_BYTES, TICK_NUMBERS, UNSCALED_BYTES,
-    WASH_NUMBERS, write_state,
+    AIRFRAME_NUMBERS, LIFT_NUMBERS, LIFT_PLACE, NO_LIFT_BYTES, SLOTS, STATE_BYTES, State,
+    TICK_BYTES, TICK_NUMBERS, UNSCALED_BYTES, WASH_NUMBERS, write_state,
 };
 use crate::limits::{self, Range};
 use crate::rng::Rng;
 
+/// What a mixer row drives: a motor along body x, a servo or a lift rotor.
+#[derive(Debug, Clone, Copy, PartialEq)]
+pub enum Kind {
+    Motor,
+    Servo,
+    Lift,
+}
+
 /// A mixer row before it is packed.
 #[derive(Debug, Clone, Copy)]
 pub struct Row {
-    pub servo: bool,
+    pub kind: Kind,
     pub slot: u8,
     pub factors: [f32; 3],
+}
+
+impl Row {
+    fn head(&self) -> u8 {
+        let kind = match self.kind {
+            Kind::Motor => 0,
+            Kind::Servo => 0b1000_0000,
+            Kind::Lift => 0b0000_1000,
+        };
+        kind | self.slot << 4
+    }
 }
 
 /// An airframe block before it is packed.
@@ -23,6 +42,7 @@ pub struct AirframeBlock {
     pub pitch_speed: bool,
     pub numbers: [f32; AIRFRAME_NUMBERS],
     pub wash: Option<[f32; WASH_NUMBERS]>,
+    pub lift: Option<[f32; LIFT_NUMBERS]>,
     pub rows: Vec<Row>,
 }
 
@@ -31,22 +51,29 @@ impl AirframeBlock {
         let header = 1 << 12
             | u16::from(self.pitch_speed) << 10
             | u16::from(self.wash.is_some()) << 9
+            | u16::from(self.lift.is_some()) << 8
             | self.rows.len() as u16;
         let mut bytes = header.to_be_bytes().to_vec();
         push(&mut bytes, &self.numbers);
-        push(
-            &mut bytes,
-            &self.wash.unwrap_or_default()[..self.wash_count()],
-        );
+        push(&mut bytes, self.wash.as_ref().map_or(&[], |wash| &wash[..]));
+        push(&mut bytes, self.lift.as_ref().map_or(&[], |lift| &lift[..]));
         for row in &self.rows {
-            bytes.push(u8::from(row.servo) << 7 | row.slot << 4);
+            bytes.push(row.head());
             push(&mut bytes, &row.factors);
         }
         bytes
     }
 
-    fn wash_count(&self) -> usize {
-        self.wash.map_or(0, |wash| wash.len())
+    /// Sets the number at `place`, 1 to 48 or 52 to 57; says whether the block has it.
+    pub fn set(&mut self, place: usize, number: f32) -> bool {
+        let at = match place {
+            ..42 => self.numbers.get_mut(place - 1),
+            ..LIFT_PLACE => self.wash.as_mut().map(|wash| &mut wash[place - 42]),
+            _ => self.lift.as_mut().map(|lift| &mut lift[place - LIFT_PLACE]),
+        };
+        let there = at.is_some();
+        at.into_iter().for_each(|at| *at = number);
+        there
     }
 }
 
@@ -119,6 +146,16 @@ const PLAUSIBLE_WASH: [Range; WASH_NUMBERS] = [
     (0.0, 0.5),
 ];
 
+/// Plausible ranges of the lift numbers of a small quadplane.
+const PLAUSIBLE_LIFT: [Range; LIFT_NUMBERS] = [
+    (1.0, 15.0),
+    (1.0, 3.0),
+    (0.0, 0.5),
+    (-0.1, 0.1),
+    (0.02, 0.4),
+    (0.0, 0.05),
+];
+
 /// A number anywhere in `range`, at its limits, or special ones inside it.
 fn anywhere(rng: &mut Rng, range: Range) -> f32 {
     let number = match rng.below(6) {
@@ -145,9 +182,15 @@ fn factor(rng: &mut Rng) -> f32 {
     }
 }
 
-pub fn row(rng: &mut Rng) -> Row {
+/// A row of any kind; a lift rotor's only where `lift` says that there may be one.
+pub fn row(rng: &mut Rng, lift: bool) -> Row {
+    let kind = match rng.below(4) {
+        0 | 1 => Kind::Servo,
+        2 if lift => Kind::Lift,
+        _ => Kind::Motor,
+    };
     Row {
-        servo: rng.once_in(2),
+        kind,
         slot: rng.below(SLOTS) as u8,
         factors: [factor(rng), factor(rng), factor(rng)].map(keep_small),
     }
@@ -162,17 +205,25 @@ fn keep_small(factor: f32) -> f32 {
     }
 }
 
-const fn motor(slot: u8, factors: [f32; 3]) -> Row {
+pub const fn motor(slot: u8, factors: [f32; 3]) -> Row {
     Row {
-        servo: false,
+        kind: Kind::Motor,
         slot,
         factors,
     }
 }
 
-const fn servo(slot: u8, factors: [f32; 3]) -> Row {
+pub const fn servo(slot: u8, factors: [f32; 3]) -> Row {
     Row {
-        servo: true,
+        kind: Kind::Servo,
+        slot,
+        factors,
+    }
+}
+
+pub const fn lift(slot: u8, factors: [f32; 3]) -> Row {
+    Row {
+        kind: Kind::Lift,
         slot,
         factors,
     }
@@ -205,17 +256,59 @@ const TWICE: [Row; 6] = [
     motor(7, [0.0, 2.0, -2.0]),
 ];
 
-fn rows(rng: &mut Rng) -> Vec<Row> {
-    match rng.below(6) {
+/// Four lift rotors, a pusher on the slot of one of them, elevons between them.
+const QUADPLANE: [Row; 7] = [
+    lift(0, [-0.7, 0.7, 1.0]),
+    lift(1, [0.7, -0.7, 1.0]),
+    servo(0, [0.5, 0.5, 0.0]),
+    lift(2, [0.7, 0.7, -1.0]),
+    lift(3, [-0.7, -0.7, -1.0]),
+    servo(1, [-0.5, 0.5, 0.0]),
+    motor(3, [0.0, 0.0, 0.0]),
+];
+
+/// Slots named twice, and by both groups: a later row wins in its own.
+const TWICE_EACH: [Row; 8] = [
+    lift(3, [1.0, -1.0, 1.0]),
+    motor(3, [1.0, -1.0, 0.5]),
+    servo(3, [0.3, 0.0, 0.7]),
+    lift(3, [-1.0, 0.5, 0.25]),
+    motor(5, [0.0, 0.25, -0.5]),
+    lift(5, [0.5, 2.0, -2.0]),
+    servo(5, [0.0, 1.0, 0.0]),
+    motor(5, [0.25, 0.0, 0.0]),
+];
+
+/// Lift rotors on all slots, a motor along body x on half of them, each with a torque of its own.
+fn all_slots() -> Vec<Row> {
+    let turn = |slot: u8| f32::from(slot + 1) * if slot.is_multiple_of(2) { 0.25 } else { -0.25 };
+    let rotor = |slot: u8| lift(slot, [turn(slot), -0.5 * turn(slot), turn(7 - slot)]);
+    let even = (0..SLOTS as u8).step_by(2);
+    let both = even.flat_map(|slot| {
+        [
+            rotor(slot),
+            motor(slot, [0.0, 0.0, turn(slot)]),
+            rotor(slot + 1),
+        ]
+    });
+    both.collect()
+}
+
+fn rows(rng: &mut Rng, lift: bool) -> Vec<Row> {
+    match rng.below(if lift { 12 } else { 6 }) {
         0 | 1 => PLANE.to_vec(),
         2 => TAILSITTER.to_vec(),
         3 => TWICE.to_vec(),
-        4 => (0..rng.below(17)).map(|_| row(rng)).collect(),
-        _ => (0..16).map(|_| row(rng)).collect(),
+        6 | 7 => QUADPLANE.to_vec(),
+        8 => TWICE_EACH.to_vec(),
+        9 => all_slots(),
+        4 | 10 => (0..rng.below(17)).map(|_| row(rng, lift)).collect(),
+        _ => (0..16).map(|_| row(rng, lift)).collect(),
     }
 }
 
-/// An airframe in range: five of six plausible, the others anywhere within the limits.
+/// An airframe in range: five of six plausible, the others anywhere within the limits. Half of them
+/// have a wash, half lift numbers.
 pub fn airframe(rng: &mut Rng) -> AirframeBlock {
     let pitch_speed = rng.once_in(2);
     let plausible = !rng.once_in(6);
@@ -228,19 +321,26 @@ pub fn airframe(rng: &mut Rng) -> AirframeBlock {
     };
     let mut numbers = core::array::from_fn(|at| draw(at + 1, PLAUSIBLE[at]));
     let wash = core::array::from_fn(|at| draw(at + 42, PLAUSIBLE_WASH[at]));
+    let mut lift = core::array::from_fn(|at| draw(at + LIFT_PLACE, PLAUSIBLE_LIFT[at]));
     if plausible && pitch_speed {
         numbers[36] = rng.between(12.0, 40.0);
     }
     numbers[35] = exponent(rng);
+    lift[1] = exponent(rng);
+    if rng.once_in(4) {
+        lift[5] = rng.pick(&[0.0, -0.0, 10.0]);
+    }
     // A soft stall, so that both sides of the blend count.
     if plausible && rng.once_in(3) {
         numbers[10] = rng.between(0.0, 4.0);
     }
+    let lift = rng.once_in(2).then_some(lift);
     AirframeBlock {
         pitch_speed,
         numbers,
         wash: rng.once_in(2).then_some(wash),
-        rows: rows(rng),
+        lift,
+        rows: rows(rng, lift.is_some()),
     }
 }
 
@@ -299,11 +399,23 @@ pub fn put_at_edges(rng: &mut Rng, running: &mut [f32; SLOTS]) {
     }
 }
 
-/// A state within the envelope, as `state` gives them, with any thrust scales, and with motors at the
-/// edges of a power.
+/// Running values of lift rotors, whether or not there are any: in a third of the states all stand, in
+/// the others each runs at any value, often at the edges of a power.
+fn lifting(rng: &mut Rng) -> [f32; SLOTS] {
+    if rng.once_in(3) {
+        return [0.0; SLOTS];
+    }
+    let mut lifting = running(rng, limits::MOTOR);
+    put_at_edges(rng, &mut lifting);
+    lifting
+}
+
+/// A state within the envelope, as `state` gives them, with any thrust scales, with motors at the
+/// edges of a power, and with lift rotors that run.
 pub fn tired_state(rng: &mut Rng) -> State {
     let mut state = State {
         thrust_scale: scales(rng),
+        lift_motors: lifting(rng),
         ..state(rng)
     };
     put_at_edges(rng, &mut state.motors);
@@ -311,7 +423,7 @@ pub fn tired_state(rng: &mut Rng) -> State {
 }
 
 /// A state within the envelope: level, inverted, stalled, tail first, at rest, or at the edge. The
-/// motors are as built.
+/// motors are as built, and the lift rotors stand.
 pub fn state(rng: &mut Rng) -> State {
     let degrees = |rng: &mut Rng, low: f32, high: f32| f64::from(rng.between(low, high));
     let yaw = if rng.once_in(3) {
@@ -334,6 +446,7 @@ pub fn state(rng: &mut Rng) -> State {
         motors: running(rng, limits::MOTOR),
         servos: running(rng, limits::SERVO),
         thrust_scale: [1.0; SLOTS],
+        lift_motors: [0.0; SLOTS],
     };
     match rng.below(8) {
         0 => state.attitude = attitude(yaw, degrees(rng, -5.0, 5.0), 180.0),
@@ -516,11 +629,12 @@ pub fn long_flight(rng: &mut Rng, most: usize) -> Vec<u8> {
 /// An input damaged in one place.
 pub fn damaged(rng: &mut Rng) -> Vec<u8> {
     let airframe = airframe(rng);
-    match rng.below(9) {
+    match rng.below(12) {
         0 => bad_header(rng, airframe),
-        1 => bad_row(rng, airframe),
-        2 | 3 => bad_number(rng, airframe),
-        4 | 5 => bad_state(rng, airframe),
+        1 | 2 => bad_row(rng, airframe),
+        3..6 => bad_number(rng, airframe),
+        6 | 7 => bad_state(rng, airframe),
+        8 => older(rng, airframe),
         _ => cut(rng, airframe),
     }
 }
@@ -538,14 +652,15 @@ fn any_tick(rng: &mut Rng) -> [f32; TICK_NUMBERS] {
     tick(rng, calm)
 }
 
-/// Version, falloff kind, a reserved bit or the row count; now and then two of them.
+/// Version, falloff kind, a reserved bit, lift numbers that are there or not, or the row count; now
+/// and then two of them.
 fn bad_header(rng: &mut Rng, airframe: AirframeBlock) -> Vec<u8> {
     let mut bytes = with_state_and_tick(rng, &airframe);
     for _ in 0..1 + rng.below(2) {
         match rng.below(4) {
             0 => bytes[0] ^= 1 << (4 + rng.below(4)),
             1 => bytes[0] |= 0b1000,
-            2 if rng.once_in(2) => bytes[0] |= 1,
+            2 if rng.once_in(2) => bytes[0] ^= 1,
             2 => bytes[1] |= 1 << (5 + rng.below(3)),
             _ => bytes[1] = bytes[1] & 0xE0 | (17 + rng.below(15)) as u8,
         }
@@ -555,9 +670,11 @@ fn bad_header(rng: &mut Rng, airframe: AirframeBlock) -> Vec<u8> {
     bytes
 }
 
-/// A reserved bit in a row, or a bad factor.
+/// A reserved bit in a row, or a bad factor. The bit of a lift rotor comes up as often as the other
+/// three: on a servo's row, and on a motor's with and without lift numbers.
 fn bad_row(rng: &mut Rng, mut airframe: AirframeBlock) -> Vec<u8> {
-    airframe.rows.push(row(rng));
+    let any = row(rng, airframe.lift.is_some());
+    airframe.rows.push(any);
     airframe.rows.truncate(16);
     let at = rng.below(airframe.rows.len());
     if rng.once_in(2) {
@@ -567,7 +684,7 @@ fn bad_row(rng: &mut Rng, mut airframe: AirframeBlock) -> Vec<u8> {
     }
     let head = airframe.bytes().len() - 13 * (airframe.rows.len() - at);
     let mut bytes = with_state_and_tick(rng, &airframe);
-    bytes[head] |= 1 << rng.below(4);
+    bytes[head] |= 1 << rng.pick(&[0, 1, 2, 3, 3, 3]);
     bytes
 }
 
@@ -581,16 +698,26 @@ fn outside(rng: &mut Rng, range: Range) -> f32 {
     }
 }
 
-/// One or two airframe numbers out of range.
+/// One or two airframe numbers out of range, one in three of them the lift rotors'; now and then a
+/// row's factor besides.
 fn bad_number(rng: &mut Rng, mut airframe: AirframeBlock) -> Vec<u8> {
     for _ in 0..1 + rng.below(2) {
-        let place = 1 + rng.below(48);
+        let place = if rng.once_in(3) {
+            LIFT_PLACE + rng.below(LIFT_NUMBERS)
+        } else {
+            1 + rng.below(48)
+        };
         let bad = outside(rng, limits::airframe(place, airframe.pitch_speed));
-        match (place, &mut airframe.wash) {
-            (..42, _) => airframe.numbers[place - 1] = bad,
-            (_, Some(wash)) => wash[place - 42] = bad,
-            (_, None) => airframe.numbers[36] = bad,
+        if !airframe.set(place, bad) {
+            airframe.numbers[36] = bad;
         }
+    }
+    if rng.once_in(8) {
+        airframe
+            .rows
+            .iter_mut()
+            .take(1)
+            .for_each(|row| row.factors[1] = 10.5);
     }
     with_state_and_tick(rng, &airframe)
 }
@@ -598,7 +725,7 @@ fn bad_number(rng: &mut Rng, mut airframe: AirframeBlock) -> Vec<u8> {
 fn bad_state(rng: &mut Rng, airframe: AirframeBlock) -> Vec<u8> {
     let mut state = tired_state(rng);
     let (axis, slot) = (rng.below(3), rng.below(SLOTS));
-    match rng.below(8) {
+    match rng.below(10) {
         0 => state.position[axis] = outside(rng, limits::POSITION),
         1 => state.velocity[axis] = outside(rng, limits::VELOCITY),
         2 => state.rates[axis] = outside(rng, limits::RATE),
@@ -607,6 +734,7 @@ fn bad_state(rng: &mut Rng, airframe: AirframeBlock) -> Vec<u8> {
         }
         4 => state.motors[slot] = outside(rng, limits::MOTOR),
         5 => state.servos[slot] = outside(rng, limits::SERVO),
+        6 | 7 => state.lift_motors[slot] = outside(rng, limits::MOTOR),
         _ => state.thrust_scale[slot] = outside(rng, limits::SCALE),
     }
     let mut bytes = airframe.bytes();
@@ -615,12 +743,33 @@ fn bad_state(rng: &mut Rng, airframe: AirframeBlock) -> Vec<u8> {
     bytes
 }
 
+/// A state of 148 or 116 bytes, with ticks behind it.
+fn older(rng: &mut Rng, airframe: AirframeBlock) -> Vec<u8> {
+    let kept = rng.pick(&[NO_LIFT_BYTES, UNSCALED_BYTES]);
+    let mut bytes = airframe.bytes();
+    bytes.extend(&state_bytes(&tired_state(rng))[..kept]);
+    for _ in 0..1 + rng.below(3) {
+        push(&mut bytes, &any_tick(rng));
+    }
+    bytes
+}
+
 /// Cut or drawn out around a boundary.
 fn cut(rng: &mut Rng, airframe: AirframeBlock) -> Vec<u8> {
     let mut bytes = with_state_and_tick(rng, &airframe);
     let end = airframe.bytes().len();
-    let (unscaled, ticks) = (end + UNSCALED_BYTES, end + STATE_BYTES);
-    let boundary = rng.pick(&[0, 2, 166, end, unscaled, ticks, ticks + TICK_BYTES]);
+    let states = [UNSCALED_BYTES, NO_LIFT_BYTES, STATE_BYTES].map(|bytes| end + bytes);
+    let [unscaled, unlifted, ticks] = states;
+    let boundary = rng.pick(&[
+        0,
+        2,
+        166,
+        end,
+        unscaled,
+        unlifted,
+        ticks,
+        ticks + TICK_BYTES,
+    ]);
     let length = (boundary + rng.below(3)).saturating_sub(1);
     bytes.resize(length, 0);
     bytes

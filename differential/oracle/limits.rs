@@ -1,5 +1,5 @@
-//! Document 01's limits, and document 02's of the wind, the thrust scales and the thrust exponent. NaN
-//! is outside all of them; -0 is 0.
+//! Document 01's limits, and document 02's of the wind, the thrust scales, the thrust exponent and the
+//! lift rotors. NaN is outside all of them; -0 is 0.
 
 /// Wrong length.
 pub const LENGTH: u8 = 1;
@@ -24,7 +24,8 @@ const SHARE: Range = (0.0, 1.0);
 const TIME_CONSTANT: Range = (0.001, 10.0);
 const DEFLECTION: Range = (-1.6, 1.6);
 
-/// The range of the airframe number at `place`, 1 to 48; wash from 42 on.
+/// The range of the airframe number at `place`, 1 to 48 and 52 to 57; wash from 42 on, lift rotors
+/// from 52 on.
 pub fn airframe(place: usize, pitch_speed: bool) -> Range {
     match place {
         1 => (0.01, 1000.0),
@@ -50,14 +51,21 @@ pub fn airframe(place: usize, pitch_speed: bool) -> Range {
         43 | 44 => (0.0, 10.0),
         45 | 46 => (-100.0, 100.0),
         47 | 48 => (0.0, 10.0),
+        52 => (0.01, 10000.0),
+        53 => (1.0, 3.0),
+        54 => (0.0, 10.0),
+        55 => (-10.0, 10.0),
+        56 => TIME_CONSTANT,
+        57 => (0.0, 10.0),
         _ => panic!("no airframe number has place {place}"),
     }
 }
 
-/// Where bad row factors, motor torques and surface weights are reported.
+/// Where bad row factors, motor torques, surface weights and lift rotors' torques are reported.
 pub const ROW_PLACE: u8 = 49;
 pub const TORQUE_PLACE: u8 = 50;
 pub const WEIGHT_PLACE: u8 = 51;
+pub const LIFT_TORQUE_PLACE: u8 = 58;
 
 pub const TORQUE: Range = (-100.0, 100.0);
 pub const WEIGHT: Range = (-101.0, 101.0);
@@ -71,6 +79,7 @@ pub const POSITION: Range = (-1_000_000.0, 1_000_000.0);
 pub const VELOCITY: Range = (-1000.0, 1000.0);
 pub const RATE: Range = (-100.0, 100.0);
 pub const NORM: Range = (0.9, 1.1);
+/// A running value of a motor of either group.
 pub const MOTOR: Range = (0.0, 1.0);
 pub const SERVO: Range = (-1.0, 1.0);
 /// Each motor's thrust scale.

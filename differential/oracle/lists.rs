@@ -10,7 +10,7 @@ mod libm;
 mod modules;
 
 /// Every list: its file name and what makes its text.
-const LISTS: [(&str, fn() -> String); 20] = [
+const LISTS: [(&str, fn() -> String); 21] = [
     ("sqrtf.txt", libm::sqrtf),
     ("expf.txt", libm::expf),
     ("sinf.txt", libm::sinf),
@@ -22,6 +22,7 @@ const LISTS: [(&str, fn() -> String); 20] = [
     ("lag_factor.txt", modules::lag_factor),
     ("approach_saturated.txt", modules::approach_saturated),
     ("motors.txt", modules::motors),
+    ("lift.txt", modules::lift),
     ("motor_rows.txt", modules::motor_rows),
     ("surfaces.txt", modules::surfaces),
     ("falloff_share.txt", modules::falloff_share),

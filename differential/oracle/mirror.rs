@@ -14,11 +14,12 @@ fn reflected_vectors(vectors: [Vec3; 8]) -> [Vec3; 8] {
     vectors.map(|v| Vec3::new(-v.x, v.y, -v.z))
 }
 
-/// The torques and the weights, in roll and yaw.
+/// The torques of both groups and the weights, in roll and yaw.
 pub fn reflected_airframe(airframe: &Airframe) -> Airframe {
     Airframe {
         torques: reflected_vectors(airframe.torques),
         weights: reflected_vectors(airframe.weights),
+        lift_torques: reflected_vectors(airframe.lift_torques),
         ..airframe.clone()
     }
 }

@@ -1,28 +1,35 @@
-//! The library's rows of numbers: an airframe's 106, a state's 37, a tick's 20, a report's 3. A second
+//! The library's rows of numbers: an airframe's 145, a state's 45, a tick's 20, a report's 3. A second
 //! reading of include/bench.h.
 
 use stable_flight::Vec3;
 
 use crate::blocks::{
-    AIRFRAME_NUMBERS, Airframe, SLOTS, STATE_NUMBERS, State, TICK_NUMBERS, Tick, WASH_NUMBERS,
+    AIRFRAME_NUMBERS, Airframe, LIFT_NUMBERS, SLOTS, STATE_NUMBERS, State, TICK_NUMBERS, Tick,
+    WASH_NUMBERS,
 };
 
 /// How many numbers an airframe's and a report's row have.
-pub const AIRFRAME_ROW: usize = 106;
+pub const AIRFRAME_ROW: usize = 145;
 pub const REPORT_ROW: usize = 3;
 
 pub type AirframeRow = [f32; AIRFRAME_ROW];
 pub type StateRow = [f32; STATE_NUMBERS];
 pub type TickRow = [f32; TICK_NUMBERS];
 
-/// Where the thrust scales of a state's row start.
+/// Where the thrust scales of a state's row start, and the lift rotors' running values.
 pub const SCALES_AT: usize = 29;
+pub const LIFT_MOTORS_AT: usize = 37;
 
-const FALLOFF_AT: usize = AIRFRAME_NUMBERS + WASH_NUMBERS;
-const WASH_AT: usize = FALLOFF_AT + 1;
-const USED_AT: usize = WASH_AT + 1;
-const TORQUES_AT: usize = USED_AT + SLOTS;
-const WEIGHTS_AT: usize = TORQUES_AT + 3 * SLOTS;
+/// Where the parts of an airframe's row start, behind the numbers with places 1 to 48.
+pub const FALLOFF_AT: usize = AIRFRAME_NUMBERS + WASH_NUMBERS;
+pub const WASH_AT: usize = FALLOFF_AT + 1;
+pub const USED_AT: usize = WASH_AT + 1;
+pub const TORQUES_AT: usize = USED_AT + SLOTS;
+pub const WEIGHTS_AT: usize = TORQUES_AT + 3 * SLOTS;
+pub const LIFT_AT: usize = WEIGHTS_AT + 3 * SLOTS;
+pub const LIFT_FLAG_AT: usize = LIFT_AT + LIFT_NUMBERS;
+pub const LIFT_USED_AT: usize = LIFT_FLAG_AT + 1;
+pub const LIFT_TORQUES_AT: usize = LIFT_USED_AT + SLOTS;
 
 /// `N` numbers of `row` from `at` on.
 fn part<const N: usize>(row: &[f32], at: usize) -> [f32; N] {
@@ -68,6 +75,10 @@ pub fn airframe_row(airframe: &Airframe) -> AirframeRow {
     put(&mut row, USED_AT, &airframe.used.map(flag));
     put_vectors(&mut row, TORQUES_AT, &airframe.torques);
     put_vectors(&mut row, WEIGHTS_AT, &airframe.weights);
+    put(&mut row, LIFT_AT, &airframe.lift.unwrap_or_default());
+    row[LIFT_FLAG_AT] = flag(airframe.lift.is_some());
+    put(&mut row, LIFT_USED_AT, &airframe.lift_used.map(flag));
+    put_vectors(&mut row, LIFT_TORQUES_AT, &airframe.lift_torques);
     row
 }
 
@@ -79,6 +90,9 @@ pub fn airframe_of(row: &AirframeRow) -> Airframe {
         used: part::<SLOTS>(row, USED_AT).map(is_set),
         torques: vectors(row, TORQUES_AT),
         weights: vectors(row, WEIGHTS_AT),
+        lift: is_set(row[LIFT_FLAG_AT]).then(|| part(row, LIFT_AT)),
+        lift_used: part::<SLOTS>(row, LIFT_USED_AT).map(is_set),
+        lift_torques: vectors(row, LIFT_TORQUES_AT),
     }
 }
 
@@ -91,6 +105,7 @@ pub fn state_row(state: &State) -> StateRow {
     put(&mut row, 13, &state.motors);
     put(&mut row, 21, &state.servos);
     put(&mut row, SCALES_AT, &state.thrust_scale);
+    put(&mut row, LIFT_MOTORS_AT, &state.lift_motors);
     row
 }
 
@@ -103,6 +118,7 @@ pub fn state_of(row: &StateRow) -> State {
         motors: part(row, 13),
         servos: part(row, 21),
         thrust_scale: part(row, SCALES_AT),
+        lift_motors: part(row, LIFT_MOTORS_AT),
     }
 }
 

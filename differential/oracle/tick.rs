@@ -1,11 +1,11 @@
-//! The tick and the run of document 01: its tests, and 02's of the wind and the thrust scales, around
-//! the original `set_thrust_scale`, `begin`, `loads` and `step`.
+//! The tick and the run of document 01: its tests, and 02's of the wind, the thrust scales and the lift
+//! rotors, around the original `set_thrust_scale`, `begin`, `loads` and `step`.
 
 use stable_flight::mixers::TableMixer;
 use stable_flight::nalgebra::UnitQuaternion;
 use stable_flight::{ActuatorCommand, Vec3};
 
-use crate::blocks::{Airframe, Refusal, State, TICK_BYTES, Tick, read_tick};
+use crate::blocks::{Airframe, Refusal, SLOTS, State, TICK_BYTES, Tick, read_tick, rotors};
 use crate::body::Body;
 use crate::fixed_wing::{AeroCoefficients, FixedWingModel, ThrustFalloff};
 use crate::limits;
@@ -76,13 +76,14 @@ fn fly_on(airframe: &Airframe, state: &State, tick: &Tick) -> (Report, State) {
         thrust: wing.thrust_n(&body, wind),
     };
     body.step(&wing.mass(), &loads, tick.step);
-    (report, state_after(&body, &mut wing))
+    (report, state_after(&body, &mut wing, state.lift_motors))
 }
 
 /// The original wing with the airframe's slots and the state's running values and thrust scales.
-/// `FixedWing::new` itself would lay the motors out by an arm of 0 and a yaw torque of the motor arm.
+/// `FixedWing::new` itself would lay the motors out by an arm of 0 and a yaw torque of the motor arm,
+/// and beside lift rotors it has one motor along body x, without torque.
 pub(crate) fn wing(airframe: &Airframe, state: &State) -> FixedWing {
-    let rotors = Rotors {
+    let placed = Rotors {
         motor_arm_m: airframe.at(41),
         wash: airframe.wash.map(wash),
         lift: None,
@@ -91,7 +92,7 @@ pub(crate) fn wing(airframe: &Airframe, state: &State) -> FixedWing {
     let mut wing = FixedWing::new(
         model(airframe),
         &no_rows,
-        rotors,
+        placed,
         UnitQuaternion::identity(),
     );
     let motors = wing.motors_mut();
@@ -100,7 +101,13 @@ pub(crate) fn wing(airframe: &Airframe, state: &State) -> FixedWing {
     let surfaces = wing.surfaces_mut();
     surfaces.set_weights(airframe.weights);
     surfaces.set_running(state.servos);
+    // Before there are lift rotors, which this would scale too: theirs stay 1, as they are made.
     wing.set_thrust_scale(state.thrust_scale);
+    if let Some(numbers) = airframe.lift {
+        let lift = wing.put_lift(rotors(numbers), numbers[5]);
+        lift.set_slots(airframe.lift_used, airframe.lift_torques);
+        lift.set_running(state.lift_motors);
+    }
     wing
 }
 
@@ -115,7 +122,9 @@ pub(crate) fn body(state: &State) -> Body {
     }
 }
 
-pub(crate) fn state_after(body: &Body, wing: &mut FixedWing) -> State {
+/// The state of the body and the wing; where this has no lift rotors, their running values are those
+/// of `unlifted`.
+pub(crate) fn state_after(body: &Body, wing: &mut FixedWing, unlifted: [f32; SLOTS]) -> State {
     let attitude = body.attitude;
     State {
         position: array(body.position_ned_m),
@@ -125,6 +134,7 @@ pub(crate) fn state_after(body: &Body, wing: &mut FixedWing) -> State {
         motors: wing.motors_mut().running(),
         servos: wing.surfaces_mut().running(),
         thrust_scale: wing.motors_mut().thrust_scale(),
+        lift_motors: wing.lift_mut().map_or(unlifted, |lift| lift.running()),
     }
 }
 

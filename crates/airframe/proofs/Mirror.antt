@@ -10,11 +10,12 @@ use Rattle.float.specs.Notation.{rounded}
 use Rattle.mixers.proofs.Reflected.{reflect-axes}
 use Rattle.mixers.specs.Reflection.{AxesRel}
 use Rattle.motors.proofs.Mirror.{reflect-group}
+use Rattle.quadplane_model.proofs.Mirror.{reflect-rotors}
 use Rattle.ordered.proofs.Ordered.{fail-same}
 use Rattle.vector.proofs.Mirror.{vec-inside-is}
 use Rattle.vector.specs.declared.Vec3.{Vec3}
-use Rattle.airframe.specs.Acceptance.{firstRefused, lowestPlace, refusedPlace, slotVecInside, vectorsOutside}
-use Rattle.airframe.specs.Numbers.{baseNumbers, numbersOf}
+use Rattle.airframe.specs.Acceptance.{firstRefused, liftTorquesOutside, lowestPlace, refusedPlace, slotVecInside, vectorsOutside}
+use Rattle.airframe.specs.Numbers.{baseNumbers, liftNumbers, numbersOf}
 use Rattle.airframe.specs.Reflection.{AirframeRel, reflectAirframe}
 use Rattle.airframe.specs.declared.Airframe.{Airframe}
 
@@ -23,7 +24,7 @@ unfolding vectorsOutside slotVecInside
 vectors-outside-is vs vs' limit place h = ap (λ (n : ℕ). cond (eqb n 0) 0 place) (fail-same 0 8 (λ k. vec-inside-is limit (h k)))
 
 pub refused-place-is : {a a' : Airframe} → AirframeRel a a' → refusedPlace a' ≡ refusedPlace a
-unfolding refusedPlace lowestPlace firstRefused numbersOf baseNumbers
+unfolding refusedPlace lowestPlace firstRefused liftTorquesOutside numbersOf baseNumbers liftNumbers
 refused-place-is {a} {a'} h =
     rw (
       h .model,
@@ -33,6 +34,11 @@ refused-place-is {a} {a'} h =
       h .wash,
       vectors-outside-is (a .motors .«torque_per_thrust_m») (a' .motors .«torque_per_thrust_m») (rounded 100 1) 50 (h .motors .torque),
       vectors-outside-is (a .weights) (a' .weights) (rounded 101 1) 51 (h .weight),
+      h .lift-present,
+      h .lift .motors .layout,
+      h .lift .motors .time-constant,
+      h .lift .drag,
+      vectors-outside-is (a .lift .motors .«torque_per_thrust_m») (a' .lift .motors .«torque_per_thrust_m») (rounded 100 1) 58 (h .lift .motors .torque),
     )
 
 -- the reflection by flipping sign bits is one
@@ -44,4 +50,6 @@ reflect-airframe a = record {
   wash = refl;
   motors = reflect-group (a .motors);
   weight = reflect-axes (a .weights);
+  lift-present = refl;
+  lift = reflect-rotors (a .lift);
 }

@@ -1,4 +1,4 @@
--- Acceptance of an airframe (01, answer 6 and "Airframe numbers by place"): the lowest place whose number is out of range, 0
+-- Acceptance of an airframe (01, answer 6 and "Airframe numbers by place"; 02, 5): the lowest place whose number is out of range, 0
 -- where the airframe is accepted. Definitions only.
 use Prim.Native.Nat.{_+_, _-_, ℕ}
 use lib.Dec.{eqb}
@@ -14,7 +14,7 @@ use Rattle.ordered.specs.Ordered.{after, firstFail, firstOf}
 use Rattle.mixers.specs.Slots.{at, vecAt}
 use Rattle.vector.specs.Vector.{vecInside}
 use Rattle.vector.specs.declared.Vec3.{Vec3}
-use Rattle.airframe.specs.Numbers.{baseSegment, numbersOf, washSegment}
+use Rattle.airframe.specs.Numbers.{baseSegment, liftSegment, numbersOf, washSegment}
 use Rattle.airframe.specs.declared.Airframe.{Airframe}
 use Rattle.airframe.specs.declared.Limits.{Limits}
 use Rattle.airframe.specs.declared.Segment.{Segment}
@@ -73,6 +73,12 @@ limitsTable =
     range (neg (rounded 100 1)) (rounded 100 1) ∷  -- 46 stall_pitch_moment
     range nought (rounded 10 1) ∷  -- 47 sink_loss
     range nought (rounded 10 1) ∷  -- 48 damping_fraction
+    range (rounded 1 100) (rounded 10000 1) ∷  -- 52 max_thrust_n of a lift rotor
+    range (rounded 1 1) (rounded 3 1) ∷  -- 53 thrust_exponent of the lift rotors
+    range nought (rounded 10 1) ∷  -- 54 moment_arm_m of the lift rotors
+    range (neg (rounded 10 1)) (rounded 10 1) ∷  -- 55 yaw_torque_per_thrust_m of the lift rotors
+    range (rounded 1 1000) (rounded 10 1) ∷  -- 56 time_constant_s of the lift rotors
+    range nought (rounded 10 1) ∷  -- 57 drag_per_thrust_n_per_mps
     []
 
 -- 37 falloff: Linear 0..10000, PitchSpeed 0.1..10000
@@ -107,21 +113,28 @@ slotVecInside limit vs k = vecInside limit (vecAt vs k)
 unfoldable pub vectorsOutside : Float → ℕ → List Vec3 → ℕ
 vectorsOutside limit place vs = cond (eqb (firstFail (slotVecInside limit vs) 0 8) 0) 0 place
 
+-- lift torques as the motors' (58), and not tested without lift numbers (02, 5)
+unfoldable pub liftTorquesOutside : Bool → List Vec3 → ℕ
+liftTorquesOutside present torques = cond present (vectorsOutside (rounded 100 1) 58 torques) 0
+
 -- ---- the parts in the order of their places: the first that is out of range tells its place
-unfoldable pub firstRefused : List Float → ThrustFalloff → Bool → Bool → List Vec3 → List Vec3 → ℕ
-firstRefused numbers falloff wash rows torques weights =
+unfoldable pub firstRefused : List Float → ThrustFalloff → Bool → Bool → List Vec3 → List Vec3 → Bool → List Vec3 → ℕ
+firstRefused numbers falloff wash rows torques weights lift liftTorques =
     firstOf
     (segmentOutside (limitsFor falloff) numbers baseSegment
     ∷ segmentOutside (limitsFor falloff) numbers (washSegment wash)
     ∷ rowFactorsOutside rows
     ∷ vectorsOutside (rounded 100 1) 50 torques
     ∷ vectorsOutside (rounded 101 1) 51 weights
+    ∷ segmentOutside (limitsFor falloff) numbers (liftSegment lift)
+    ∷ liftTorquesOutside lift liftTorques
     ∷ [])
 
 -- of an airframe whose rows' factors all fit, or not
 unfoldable pub lowestPlace : Bool → Airframe → ℕ
 lowestPlace rows a =
     firstRefused (numbersOf a) (a .model .«thrust_falloff») (a .«wash_present») rows (a .motors .«torque_per_thrust_m») (a .weights)
+    (a .«lift_present») (a .lift .motors .«torque_per_thrust_m»)
 
 -- of an airframe that is not of a block: it has no rows
 unfoldable pub refusedPlace : Airframe → ℕ

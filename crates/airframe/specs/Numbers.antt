@@ -1,4 +1,4 @@
--- The airframe's numbers by place (01, "Airframe numbers by place"). Definitions only.
+-- The airframe's numbers by place (01, "Airframe numbers by place"; 02, 5). Definitions only.
 use Prim.Native.Nat.{_+_, ℕ}
 use lib.Ieee.{Float}
 use lib.ListN.{replicate}
@@ -9,9 +9,10 @@ use Rattle.fixed_wing.specs.declared.FixedWingModel.{FixedWingModel}
 use Rattle.fixed_wing.specs.declared.ThrustFalloff.{ThrustFalloff}
 use Rattle.fixed_wing.specs.declared.ThrustFalloff.the-variants.{Linear, PitchSpeed}
 use Rattle.float.specs.Notation.{nought}
-use Rattle.motors.specs.Motor.{undriven}
+use Rattle.motors.specs.Motor.{undriven, zeroLayout}
 use Rattle.motors.specs.declared.MotorGroup.{MotorGroup}
-use Rattle.motors.specs.declared.MotorLayout.{MotorLayout}
+use Rattle.quadplane_model.specs.Lift.{zeroRotors}
+use Rattle.quadplane_model.specs.declared.LiftRotors.{LiftRotors}
 use Rattle.tailsitter_model.specs.declared.PropWash.{PropWash}
 use Rattle.vector.specs.Vector.{zeroVec}
 use Rattle.vector.specs.declared.Vec3.{Vec3}
@@ -22,7 +23,8 @@ abbrev pub falloffNumber : ThrustFalloff → Float
 falloffNumber (Linear n) = n
 falloffNumber (PitchSpeed n) = n
 
--- ---- segments of the numbers: 41 that every airframe has, places 1 to 41, and the wash's 7, places 42 to 48, if there is one
+-- ---- segments of the numbers: 41 that every airframe has, places 1 to 41, the wash's 7, places 42 to 48, if there is one, and the
+-- lift rotors' 6, places 52 to 57, if the header says so (02, 5)
 abbrev pub baseCount : ℕ
 baseCount = 41
 
@@ -32,14 +34,23 @@ washFirst = baseCount
 abbrev pub washCount : ℕ
 washCount = 7
 
+abbrev pub liftFirst : ℕ
+liftFirst = washFirst + washCount
+
+abbrev pub liftCount : ℕ
+liftCount = 6
+
 abbrev pub numbersCount : ℕ
-numbersCount = washFirst + washCount
+numbersCount = liftFirst + liftCount
 
 abbrev pub baseSegment : Segment
 baseSegment = record { present = true; first = 0; count = baseCount; place = 1 }
 
 abbrev pub washSegment : Bool → Segment
 washSegment present = record { present = present; first = washFirst; count = washCount; place = 42 }
+
+abbrev pub liftSegment : Bool → Segment
+liftSegment present = record { present = present; first = liftFirst; count = liftCount; place = 52 }
 
 -- ---- the numbers, a segment after the other
 
@@ -70,10 +81,16 @@ washNumbers w more =
     w .«disc_area_m2» ∷ w .«surface_fraction» ∷ w .«roll_fraction» ∷ w .«pitch_moment» ∷ w .«stall_pitch_moment» ∷ w .«sink_loss» ∷
     w .«damping_fraction» ∷ more
 
-unfoldable pub numbersOf : Airframe → List Float
-numbersOf a = baseNumbers (a .model) (a .motors) (washNumbers (a .wash) [])
+-- the lift rotors', 52 to 57: thrust, exponent, arm, yaw torque, lag constant, drag
+unfoldable pub liftNumbers : LiftRotors → List Float → List Float
+liftNumbers l more =
+    l .motors .layout .«max_thrust_n» ∷ l .motors .layout .«thrust_exponent» ∷ l .motors .layout .«moment_arm_m» ∷
+    l .motors .layout .«yaw_torque_per_thrust_m» ∷ l .motors .«time_constant_s» ∷ l .«drag_per_thrust_n_per_mps» ∷ more
 
--- the zero airframe, which a refused read gives: all numbers 0, Linear, the wash absent, no slot marked
+unfoldable pub numbersOf : Airframe → List Float
+numbersOf a = baseNumbers (a .model) (a .motors) (washNumbers (a .wash) (liftNumbers (a .lift) []))
+
+-- the zero airframe, which a refused read gives: all numbers 0, Linear, wash and lift numbers absent, no slot marked
 unfoldable pub zeroCoefficients : AeroCoefficients
 zeroCoefficients = record {
   «c_lift_0» = nought;
@@ -126,14 +143,6 @@ zeroWash = record {
   «stall_pitch_moment» = nought;
 }
 
-unfoldable pub zeroLayout : MotorLayout
-zeroLayout = record {
-  «moment_arm_m» = nought;
-  «yaw_torque_per_thrust_m» = nought;
-  «max_thrust_n» = nought;
-  «thrust_exponent» = nought;
-}
-
 unfoldable pub zeroAirframe : Airframe
 zeroAirframe = record {
   model = zeroModel;
@@ -141,4 +150,6 @@ zeroAirframe = record {
   wash = zeroWash;
   motors = undriven zeroLayout nought;
   weights = replicate 8 zeroVec;
+  «lift_present» = false;
+  lift = zeroRotors;
 }

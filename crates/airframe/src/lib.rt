@@ -1,5 +1,5 @@
-// The airframe: its numbers under their names, the wash with its flag, the motors along body x and the surfaces' weights; its
-// acceptance and its reflection.
+// The airframe: its numbers under their names, the motors along body x, the surfaces' weights, and with their flags the wash and the
+// lift rotors; its acceptance and its reflection.
 ghost use mathlib.Core.Path.{_≡_};
 ghost use Prim.Native.Nat.{_+_, _≤_};
 ghost use Rattle.airframe.specs.Acceptance as Acceptance;
@@ -12,6 +12,7 @@ use fixed_wing::FixedWingModel;
 use fixed_wing::ThrustFalloff;
 use motors::MotorGroup;
 use motors::MotorLayout;
+use quadplane_model::LiftRotors;
 use tailsitter_model::PropWash;
 use vector::Vec3;
 
@@ -24,16 +25,23 @@ pub struct Airframe {
     pub motors: MotorGroup,
     // Each servo slot's share of the surfaces' deflections.
     pub weights: [Vec3; 8],
+    // Whether there are lift numbers (02, 5); where not, `lift` is not looked at.
+    pub lift_present: bool,
+    pub lift: LiftRotors,
 }
 
-// The numbers stand in segments: those that every airframe has, and the wash's.
+// The numbers stand in segments: those that every airframe has, the wash's and the lift rotors'.
 pub const BASE_COUNT: usize = 41;
 
 pub const WASH_FIRST: usize = BASE_COUNT;
 
 pub const WASH_COUNT: usize = 7;
 
-pub const NUMBERS: usize = WASH_FIRST + WASH_COUNT;
+pub const LIFT_FIRST: usize = WASH_FIRST + WASH_COUNT;
+
+pub const LIFT_COUNT: usize = 6;
+
+pub const NUMBERS: usize = LIFT_FIRST + LIFT_COUNT;
 
 // Of a segment: whether it is there, the index of its first number, how many numbers it has, and the place of the first.
 pub struct Segment {
@@ -95,6 +103,12 @@ pub const LIMITS: [Limits; NUMBERS] = [
     Limits(-100.0, 100.0), // 46 stall_pitch_moment
     Limits(0.0, 10.0), // 47 sink_loss
     Limits(0.0, 10.0), // 48 damping_fraction
+    Limits(0.01, 10000.0), // 52 max_thrust_n of a lift rotor
+    Limits(1.0, 3.0), // 53 thrust_exponent of the lift rotors
+    Limits(0.0, 10.0), // 54 moment_arm_m of the lift rotors
+    Limits(-10.0, 10.0), // 55 yaw_torque_per_thrust_m of the lift rotors
+    Limits(0.001, 10.0), // 56 time_constant_s of the lift rotors
+    Limits(0.0, 10.0), // 57 drag_per_thrust_n_per_mps
 ];
 
 impl Segment {
@@ -119,10 +133,21 @@ impl Segment {
             place: 42,
         }
     }
+
+    pub fn lift(present: bool) -> Self
+        ensures { λ r. ⌜ r ≡ Numbers.liftSegment present ⌝ }
+    {
+        Segment {
+            present,
+            first: LIFT_FIRST,
+            count: LIFT_COUNT,
+            place: 52,
+        }
+    }
 }
 
 impl Airframe {
-    // The numbers, segment by segment, those of an absent wash included.
+    // The numbers, segment by segment, those of an absent segment included.
     pub fn numbers(self) -> [f32; NUMBERS]
         ensures { λ r. ⌜ r ≡ Numbers.numbersOf self ⌝ }
     {
@@ -133,6 +158,9 @@ impl Airframe {
         let w = self.wash;
         let group = self.motors;
         let layout = group.layout;
+        let lift = self.lift;
+        let rotors = lift.motors;
+        let rotor = rotors.layout;
         let falloff = m.thrust_falloff;
         let lost = falloff_number(falloff);
         [
@@ -184,6 +212,12 @@ impl Airframe {
             w.stall_pitch_moment,
             w.sink_loss,
             w.damping_fraction,
+            rotor.max_thrust_n,
+            rotor.thrust_exponent,
+            rotor.moment_arm_m,
+            rotor.yaw_torque_per_thrust_m,
+            rotors.time_constant_s,
+            lift.drag_per_thrust_n_per_mps,
         ]
     }
 
@@ -198,6 +232,9 @@ impl Airframe {
         let numbers = self.numbers();
         let torques = group.torque_per_thrust_m;
         let weights = self.weights;
+        let lift = self.lift;
+        let rotors = lift.motors;
+        let lift_torques = rotors.torque_per_thrust_m;
         first_refused(
             numbers,
             falloff,
@@ -205,6 +242,8 @@ impl Airframe {
             rows_fit,
             torques,
             weights,
+            self.lift_present,
+            lift_torques,
         )
     }
 
@@ -224,8 +263,10 @@ pub fn first_refused(
     rows_fit: bool,
     torques: [Vec3; 8],
     weights: [Vec3; 8],
+    lift_present: bool,
+    lift_torques: [Vec3; 8],
 ) -> u32
-    ensures { λ r. ⌜ r ≡ Acceptance.firstRefused numbers falloff «wash_present» «rows_fit» torques weights ⌝ }
+    ensures { λ r. ⌜ r ≡ Acceptance.firstRefused numbers falloff «wash_present» «rows_fit» torques weights «lift_present» «lift_torques» ⌝ }
 {
     let limits = limits_for(falloff);
     let base = segment_outside(numbers, limits, Segment::base());
@@ -233,8 +274,22 @@ pub fn first_refused(
     let rows = row_factors_outside(rows_fit);
     let torque = vectors_outside(torques, 100.0, 50);
     let weight = vectors_outside(weights, 101.0, 51);
-    let others = ordered::or_else(rows, ordered::or_else(torque, weight));
+    let lift = segment_outside(numbers, limits, Segment::lift(lift_present));
+    let lift_torque = lift_torques_outside(lift_present, lift_torques);
+    let lifted = ordered::or_else(lift, lift_torque);
+    let made = ordered::or_else(torque, ordered::or_else(weight, lifted));
+    let others = ordered::or_else(rows, made);
     ordered::or_else(base, ordered::or_else(wash, others))
+}
+
+// Without lift numbers the lift rotors' torques are not tested.
+fn lift_torques_outside(present: bool, torques: [Vec3; 8]) -> u32
+    ensures { λ r. ⌜ r ≡ Acceptance.liftTorquesOutside present torques ⌝ }
+{
+    if present {
+        return vectors_outside(torques, 100.0, 58);
+    }
+    0
 }
 
 fn row_factors_outside(rows_fit: bool) -> u32
@@ -363,20 +418,17 @@ impl Airframe {
             pitch_moment: 0.0,
             stall_pitch_moment: 0.0,
         };
-        let layout = MotorLayout {
-            moment_arm_m: 0.0,
-            yaw_torque_per_thrust_m: 0.0,
-            max_thrust_n: 0.0,
-            thrust_exponent: 0.0,
-        };
-        let motors = MotorGroup::undriven(layout, 0.0);
+        let motors = MotorGroup::undriven(MotorLayout::zero(), 0.0);
         let weights = [Vec3::zeros(); 8];
+        let lift = LiftRotors::zero();
         Airframe {
             model,
             wash_present: false,
             wash,
             motors,
             weights,
+            lift_present: false,
+            lift,
         }
     }
 }
@@ -427,7 +479,7 @@ fn zero_model() -> FixedWingModel
 }
 
 impl Airframe {
-    // Left and right exchanged: the motors' torques and the weights are negated in roll and yaw.
+    // Left and right exchanged: both groups' torques and the weights are negated in roll and yaw.
     pub fn reflected(mut self) -> Self
         ensures { λ r. ⌜ r ≡ Reflection.reflectAirframe self ⌝ }
     {
@@ -435,8 +487,11 @@ impl Airframe {
         let weights = self.weights;
         let reflected_motors = motors.reflected();
         let reflected_weights = mixers::reflected_axes(weights);
+        let lift = self.lift;
+        let reflected_lift = lift.reflected();
         self.motors = reflected_motors;
         self.weights = reflected_weights;
+        self.lift = reflected_lift;
         self
     }
 }

@@ -17,13 +17,13 @@ unfolding readAirframeOf
 by-header s h r l e g = rw (le-ltb (length s) 2 l) (g ∙ ap (readBy s) e)
 
 -- the reserved bits of the rows
-pub body-refused : (s : List ℕ) (h : Header) → (reservedRow s (rowsAt h) (h .rows) ≡ 0 → ⊥) → refusedAirframe ReservedBit ≡ readBody s h
+pub body-refused : (s : List ℕ) (h : Header) → (reservedRow s (h .lift) (rowsAt h) (h .rows) ≡ 0 → ⊥) → refusedAirframe ReservedBit ≡ readBody s h
 unfolding readBody
-body-refused s h n = simp (ne-eqb (reservedRow s (rowsAt h) (h .rows)) 0 n)
+body-refused s h n = simp (ne-eqb (reservedRow s (h .lift) (rowsAt h) (h .rows)) 0 n)
 
-pub body-read : (s : List ℕ) (h : Header) → reservedRow s (rowsAt h) (h .rows) ≡ 0 → readRows s h (rowsFrom s (rowsAt h) (h .rows)) ≡ readBody s h
+pub body-read : (s : List ℕ) (h : Header) → reservedRow s (h .lift) (rowsAt h) (h .rows) ≡ 0 → readRows s h (rowsFrom s (rowsAt h) (h .rows)) ≡ readBody s h
 unfolding readBody
-body-read s h e = simp (eq-eqb (reservedRow s (rowsAt h) (h .rows)) 0 e)
+body-read s h e = simp (eq-eqb (reservedRow s (h .lift) (rowsAt h) (h .rows)) 0 e)
 
 -- the place
 pub place-refused : (a : Airframe) (p : ℕ) → (p ≡ 0 → ⊥) → refusedAirframe (NumberOutOfRange p) ≡ testedAirframe a p

@@ -1,5 +1,5 @@
--- What reading an airframe block can give (01, "What the bench replies"): a refusal, with the airframe of zeros, or an accepted airframe. And where no wash is read, its numbers are 0.
--- Assumes nothing.
+-- What reading an airframe block can give (01, "What the bench replies"): a refusal, with the airframe of zeros, or an accepted airframe. And where no wash is read, its numbers are 0,
+-- and so are the lift rotors' where none are. Assumes nothing.
 use Prim.Native.Nat.{ℕ}
 use borrow.Author.Tests.{eqb-true}
 use lib.Dec.{eqb, ltb}
@@ -16,8 +16,10 @@ use Rattle.answers.specs.declared.Answer.{Answer}
 use Rattle.answers.specs.declared.Answer.the-variants.{Done, NumberOutOfRange, ReservedBit, TooManyRows, WrongFalloff, WrongLength, WrongVersion}
 use Rattle.float.proofs.Tests.{either}
 use Rattle.float.specs.Bytes.{byteAt}
+use Rattle.float.specs.Notation.{nought}
 use Rattle.mixers.specs.declared.Rows.{Rows}
-use Rattle.airframe_block.specs.Block.{acceptedAirframe, airframeBy, badRow, bytesOf, headerOf, numbersFrom, placedAirframe, putNumbers, putSegment, putSegments, readAirframeOf, readBody, readBy, readRows, refusedAirframe, reservedRow, rowsAt, rowsFrom, segmentsOf, testedAirframe, washFrom}
+use Rattle.motors.specs.Motor.{zeroLayout}
+use Rattle.airframe_block.specs.Block.{acceptedAirframe, airframeBy, badRow, bytesOf, headerOf, liftConstant, liftDrag, liftLayoutOf, numbersFrom, placedAirframe, putNumbers, putSegment, putSegments, readAirframeOf, readBody, readBy, readRows, refusedAirframe, reservedRow, rowsAt, rowsFrom, segmentsOf, testedAirframe, washFrom}
 use Rattle.airframe_block.specs.declared.AirframeRead.{AirframeRead}
 use Rattle.airframe_block.specs.declared.Header.{Header}
 
@@ -63,7 +65,7 @@ rows-outcome s h rows = placed-outcome (airframeBy (numbersFrom s h) h rows) row
 
 body-outcome : (s : List ℕ) (h : Header) → Outcome (readBody s h)
 unfolding readBody
-body-outcome s h = either Outcome (eqb (reservedRow s (rowsAt h) (h .rows)) 0) (rows-outcome s h (rowsFrom s (rowsAt h) (h .rows))) (refusal ReservedBit not-reserved)
+body-outcome s h = either Outcome (eqb (reservedRow s (h .lift) (rowsAt h) (h .rows)) 0) (rows-outcome s h (rowsFrom s (rowsAt h) (h .rows))) (refusal ReservedBit not-reserved)
 
 by-outcome : (s : List ℕ) (h : Header) → Outcome (readBy s h)
 unfolding readBy
@@ -99,4 +101,21 @@ refused-is-zero s e = refused-of (readAirframeOf s) (read-outcome s) e
 -- the numbers of a wash that is not there are zeros (01, module 5)
 pub absent-wash : (s : List ℕ) (h : Header) → h .wash ≡ false → washFrom (numbersFrom s h) ≡ zeroWash
 unfolding washFrom numbersFrom segmentsOf putSegments putSegment putNumbers zeroWash
-absent-wash s h e = simp e
+absent-wash s h e = go (h .lift) refl
+  where
+    go : (t : Bool) → h .lift ≡ t → washFrom (numbersFrom s h) ≡ zeroWash
+    go true l = simp (e, l)
+    go false l = simp (e, l)
+
+-- and so are those of lift rotors that are not there (02, 5)
+pub absent-lift : (s : List ℕ) (h : Header)
+    → h .lift ≡ false
+    → (liftLayoutOf (numbersFrom s h) ≡ zeroLayout) × (liftConstant (numbersFrom s h) ≡ nought) × (liftDrag (numbersFrom s h) ≡ nought)
+unfolding liftLayoutOf numbersFrom segmentsOf putSegments putSegment putNumbers zeroLayout
+absent-lift s h e = go (h .wash) refl
+  where
+    go : (t : Bool)
+        → h .wash ≡ t
+        → (liftLayoutOf (numbersFrom s h) ≡ zeroLayout) × (liftConstant (numbersFrom s h) ≡ nought) × (liftDrag (numbersFrom s h) ≡ nought)
+    go true l = (simp (e, l), simp (e, l), simp (e, l))
+    go false l = (simp (e, l), simp (e, l), simp (e, l))

@@ -7,7 +7,7 @@ use mathlib.Core.List.{List}
 use mathlib.Core.Path.{_∙_, _≡_, ap, ap₂, refl, subst, sym}
 use native.Mathlib.Numerals.{add-one}
 use native.Mathlib.Omega.{arith}
-use Rattle.airframe.specs.Numbers.{baseCount, baseSegment, numbersCount, washCount, washSegment}
+use Rattle.airframe.specs.Numbers.{baseCount, baseSegment, liftCount, liftSegment, numbersCount, washCount, washSegment}
 use Rattle.airframe.specs.declared.Segment.{Segment}
 use Rattle.mixers.specs.declared.MixRow.{MixRow}
 use Rattle.state_block.specs.Layout.{floatAt, numberBytes}
@@ -24,6 +24,9 @@ base-holds x e = subst Holds (sym e) (omega arith)
 pub wash-holds : (x : Segment) (present : Bool) → x ≡ washSegment present → Holds x
 wash-holds x present e = subst Holds (sym e) (omega arith)
 
+pub lift-holds : (x : Segment) (present : Bool) → x ≡ liftSegment present → Holds x
+lift-holds x present e = subst Holds (sym e) (omega arith)
+
 pub few : (x : Segment) → Holds x → x .count ≤ numbersCount
 few x h = omega (arith, h)
 
@@ -32,20 +35,26 @@ pub base-bytes : (x : Segment) → x ≡ baseSegment → segmentBytes x ≡ numb
 unfolding segmentBytes
 base-bytes x e = ap segmentBytes e
 
-pub wash-bytes : (x : Segment) (present : Bool) → x ≡ washSegment present → segmentBytes x ≤ numberBytes * washCount
+most-bytes : (x : Segment) → segmentBytes x ≤ numberBytes * x .count
 unfolding segmentBytes
-wash-bytes x present e = subst (λ (y : Segment). segmentBytes y ≤ numberBytes * washCount) (sym e) (go present)
+most-bytes x = go (x .present)
   where
-    go : (t : Bool) → cond t (numberBytes * washCount) 0 ≤ numberBytes * washCount
+    go : (t : Bool) → cond t (numberBytes * x .count) 0 ≤ numberBytes * x .count
     go true = omega arith
     go false = omega arith
+
+pub wash-bytes : (x : Segment) (present : Bool) → x ≡ washSegment present → segmentBytes x ≤ numberBytes * washCount
+wash-bytes x present e = subst (λ (y : Segment). segmentBytes y ≤ numberBytes * washCount) (sym e) (most-bytes (washSegment present))
+
+pub lift-bytes : (x : Segment) (present : Bool) → x ≡ liftSegment present → segmentBytes x ≤ numberBytes * liftCount
+lift-bytes x present e = subst (λ (y : Segment). segmentBytes y ≤ numberBytes * liftCount) (sym e) (most-bytes (liftSegment present))
 
 pub present-bytes : (x : Segment) → x .present ≡ true → segmentBytes x ≡ numberBytes * x .count
 unfolding segmentBytes
 present-bytes x e = rw e
 
 -- where the rows begin, segment by segment
-pub rows-at-is : (h : Header) → rowsAt h ≡ headerBytes + segmentBytes baseSegment + segmentBytes (washSegment (h .wash))
+pub rows-at-is : (h : Header) → rowsAt h ≡ headerBytes + segmentBytes baseSegment + segmentBytes (washSegment (h .wash)) + segmentBytes (liftSegment (h .lift))
 unfolding rowsAt segmentsEnd segmentsOf
 rows-at-is h = refl
 
@@ -55,7 +64,8 @@ unfolding bytesOf
 bytes-within h l =
     let base = base-bytes baseSegment refl in
     let wash = wash-bytes (washSegment (h .wash)) (h .wash) refl in
-    (omega (arith, rows-at-is h, base), omega (arith, rows-at-is h, base, wash, l))
+    let lift = lift-bytes (liftSegment (h .lift)) (h .lift) refl in
+    (omega (arith, rows-at-is h, base), omega (arith, rows-at-is h, base, wash, lift, l))
 
 -- one number more, in a loop over a segment's
 pub numbers-more : (s : List ℕ) (i : ℕ) (xs : List Float) (j n : ℕ) (out : List Float) (x : Float)

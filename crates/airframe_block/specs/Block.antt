@@ -1,4 +1,4 @@
--- The airframe block (01, "Blocks", "Airframe"): what its bits and bytes say, and what reading it gives. A block's bytes are a
+-- The airframe block (01, "Blocks", "Airframe"; 02, 5): what its bits and bytes say, and what reading it gives. A block's bytes are a
 -- list of numbers below 256. Definitions only.
 use Prim.Native.Nat.{_%_, _*_, _+_, _-_, _/_, suc, zero, ℕ}
 use lib.Dec.{eqb, ltb}
@@ -7,7 +7,7 @@ use lib.ListN.{getD, length, replicate, set}
 use mathlib.Core.Bool.{Bool, cond, false, not, true}
 use mathlib.Core.List.{List, [], _∷_}
 use Rattle.airframe.specs.Acceptance.{lowestPlace}
-use Rattle.airframe.specs.Numbers.{baseSegment, numbersCount, washSegment, zeroAirframe}
+use Rattle.airframe.specs.Numbers.{baseSegment, liftFirst, liftSegment, numbersCount, washSegment, zeroAirframe}
 use Rattle.airframe.specs.declared.Airframe.{Airframe}
 use Rattle.airframe.specs.declared.Segment.{Segment}
 use Rattle.answers.specs.declared.Answer.{Answer}
@@ -26,8 +26,8 @@ use Rattle.mixers.specs.Slots.{at}
 use Rattle.mixers.specs.declared.MixRow.{MixRow}
 use Rattle.mixers.specs.declared.Rows.{Rows}
 use Rattle.mixers.specs.declared.Slot.{Slot}
-use Rattle.mixers.specs.declared.Slot.the-variants.{Motor, Servo}
-use Rattle.motors.specs.Motor.{groupOf}
+use Rattle.mixers.specs.declared.Slot.the-variants.{Lift, Motor, Servo}
+use Rattle.motors.specs.Motor.{groupOf, liftGroupOf}
 use Rattle.motors.specs.declared.MotorLayout.{MotorLayout}
 use Rattle.state_block.specs.Layout.{floatAt, numberBytes}
 use Rattle.surfaces.specs.Surface.{surfacesOf}
@@ -47,20 +47,21 @@ rowBytes = 13
 abbrev pub mostBytes : ℕ
 mostBytes = headerBytes + numberBytes * numbersCount + rowBytes * 31
 
--- ---- the header, bytes a and b, from the top bit down: 4 bits of version, 2 of the falloff's kind, 1 for a wash, 4 reserved, 5 of
--- the row count
+-- ---- the header, bytes a and b, from the top bit down: 4 bits of version, 2 of the falloff's kind, 1 for a wash, 1 for lift
+-- numbers, 3 reserved, 5 of the row count
 unfoldable pub headerOf : ℕ → ℕ → Header
 headerOf a b = record {
   version = a / 16;
   kind = a / 4 % 4;
   wash = eqb (a / 2 % 2) 1;
-  reserved = a % 2 * 8 + b / 32;
+  lift = eqb (a % 2) 1;
+  reserved = b / 32;
   rows = b % 32;
 }
 
 -- ---- after it the segments of the numbers, one after the other: an absent one has no bytes
 unfoldable pub segmentsOf : Header → List Segment
-segmentsOf h = baseSegment ∷ washSegment (h .wash) ∷ []
+segmentsOf h = baseSegment ∷ washSegment (h .wash) ∷ liftSegment (h .lift) ∷ []
 
 unfoldable pub segmentBytes : Segment → ℕ
 segmentBytes x = cond (x .present) (numberBytes * x .count) 0
@@ -74,7 +75,7 @@ segmentsEnd i (x ∷ more) = segmentsEnd (i + segmentBytes x) more
 unfoldable pub rowsAt : Header → ℕ
 rowsAt h = segmentsEnd headerBytes (segmentsOf h)
 
--- 166 bytes, 28 more with a wash, 13 more for each row
+-- 166 bytes, 28 more with a wash, 24 more with lift numbers, 13 more for each row
 unfoldable pub bytesOf : Header → ℕ
 bytesOf h = rowsAt h + rowBytes * h .rows
 
@@ -98,6 +99,10 @@ numbersFrom s h = putSegments s headerBytes (replicate numbersCount nought) (seg
 -- the number of a place up to 48, counted from 1
 abbrev pub place : List Float → ℕ → Float
 place xs p = at xs (p - 1)
+
+-- and of a place from 52 on, those of the lift rotors
+abbrev pub liftPlace : List Float → ℕ → Float
+liftPlace xs p = at xs (liftFirst + (p - 52))
 
 -- ---- "Airframe numbers by place"
 
@@ -173,10 +178,30 @@ layoutOf xs = record {
 abbrev pub motorConstant : List Float → Float
 motorConstant xs = place xs 39
 
--- ---- rows: a byte with the kind in bit 7, 1 for a servo, the slot in bits 6..4 and 0 in the others; then three factors
+-- the lift rotors' (02, 5): 52 thrust, 53 exponent, 54 the arm, 55 the yaw torque
+unfoldable pub liftLayoutOf : List Float → MotorLayout
+liftLayoutOf xs = record {
+  «moment_arm_m» = liftPlace xs 54;
+  «yaw_torque_per_thrust_m» = liftPlace xs 55;
+  «max_thrust_n» = liftPlace xs 52;
+  «thrust_exponent» = liftPlace xs 53;
+}
+
+-- 56 lag constant, 57 drag
+abbrev pub liftConstant : List Float → Float
+liftConstant xs = liftPlace xs 56
+
+abbrev pub liftDrag : List Float → Float
+liftDrag xs = liftPlace xs 57
+
+-- ---- rows: a byte with the kind in bit 7, 1 for a servo, the slot in bits 6..4, 1 for a lift rotor in bit 3 (02, 5) and 0 in the
+-- others; then three factors
 
 unfoldable pub slotOf : ℕ → Slot
-slotOf b = cond (eqb (b / 128) 0) (Motor (b / 16 % 8)) (Servo (b / 16 % 8))
+slotOf b =
+    cond (eqb (b / 128) 0)
+    (cond (eqb (b / 8 % 2) 0) (Motor (b / 16 % 8)) (Lift (b / 16 % 8)))
+    (Servo (b / 16 % 8))
 
 -- the row whose bytes begin at i
 unfoldable pub rowFrom : List ℕ → ℕ → MixRow
@@ -194,13 +219,16 @@ emptyRow = record { slot = Motor 0; roll = nought; pitch = nought; yaw = nought 
 unfoldable pub rowsFrom : List ℕ → ℕ → ℕ → Rows
 rowsFrom s start count = record { rows = putRows s start (replicate mostRows emptyRow) count; count = count }
 
--- a row's four reserved bits are clear
-unfoldable pub rowClear : List ℕ → ℕ → ℕ → Bool
-rowClear s start k = eqb (byteAt s (start + rowBytes * k) % 16) 0
+-- a row's byte has none of its three reserved bits, and its lift bit only on a motor's row and where there are lift numbers
+unfoldable pub bitsClear : Bool → ℕ → Bool
+bitsClear lift b = cond (eqb (b % 8) 0) (cond (eqb (b / 8 % 2) 0) true (cond (eqb (b / 128) 0) lift false)) false
 
--- the first row, counted from 1, with a reserved bit set; 0 for none
-unfoldable pub reservedRow : List ℕ → ℕ → ℕ → ℕ
-reservedRow s start count = firstFail (rowClear s start) 0 count
+unfoldable pub rowClear : List ℕ → Bool → ℕ → ℕ → Bool
+rowClear s lift start k = bitsClear lift (byteAt s (start + rowBytes * k))
+
+-- the first row, counted from 1, with a bit set that must not be; 0 for none
+unfoldable pub reservedRow : List ℕ → Bool → ℕ → ℕ → ℕ
+reservedRow s lift start count = firstFail (rowClear s lift start) 0 count
 
 -- ---- place 49 (01, "Airframe numbers by place"): a factor is 0 or of a size from 0.01 to 10; every row is tested, also one that a
 -- later row of its slot overwrites
@@ -217,7 +245,7 @@ rowFitsAt rows k = rowFits (getD rows k noRow)
 unfoldable pub badRow : Rows → ℕ
 badRow rows = firstFail (rowFitsAt (rows .rows)) 0 (liveOf rows)
 
--- ---- the airframe: torques and used motors by module 2, weights by module 3
+-- ---- the airframe: torques and used motors of both groups by module 2, weights by module 3
 unfoldable pub airframeBy : List Float → Header → Rows → Airframe
 airframeBy xs h rows = record {
   model = modelOf xs (h .kind);
@@ -225,6 +253,8 @@ airframeBy xs h rows = record {
   wash = washFrom xs;
   motors = groupOf rows (layoutOf xs) (motorConstant xs);
   weights = surfacesOf rows .weights;
+  «lift_present» = h .lift;
+  lift = record { motors = liftGroupOf rows (liftLayoutOf xs) (liftConstant xs); «drag_per_thrust_n_per_mps» = liftDrag xs };
 }
 
 -- ---- reading (01, "What the bench replies", the order of an airframe)
@@ -249,7 +279,7 @@ readRows s h rows = placedAirframe (airframeBy (numbersFrom s h) h rows) rows
 -- a reserved bit in the rows (4), then the numbers
 unfoldable pub readBody : List ℕ → Header → AirframeRead
 readBody s h =
-    cond (eqb (reservedRow s (rowsAt h) (h .rows)) 0)
+    cond (eqb (reservedRow s (h .lift) (rowsAt h) (h .rows)) 0)
     (readRows s h (rowsFrom s (rowsAt h) (h .rows)))
     (refusedAirframe ReservedBit)
 

@@ -17,6 +17,7 @@ use mixers::MixRow;
 use mixers::Rows;
 use mixers::Slot;
 use motors::MotorLayout;
+use quadplane_model::LiftRotors;
 use tailsitter_model::PropWash;
 use vector::Vec3;
 
@@ -38,9 +39,10 @@ pub const MOST_BYTES: usize = HEADER_BYTES + state_block::NUMBER_BYTES * NUMBERS
 struct Header {
     version: u8,
     kind: u8,
-    // Whether a wash is present.
+    // Whether a wash is present, and whether lift numbers are (02, 5).
     wash: bool,
-    // The four reserved bits.
+    lift: bool,
+    // The three reserved bits.
     reserved: u8,
     rows: usize,
 }
@@ -60,7 +62,8 @@ fn header_of(a: u8, b: u8) -> Header
         version: a / 16,
         kind: a / 4 % 4,
         wash: a / 2 % 2 == 1,
-        reserved: a % 2 * 8 + b / 32,
+        lift: a % 2 == 1,
+        reserved: b / 32,
         rows,
     }
 }
@@ -83,7 +86,8 @@ impl Header {
     {
         let base = segment_bytes(Segment::base());
         let wash = segment_bytes(Segment::wash(self.wash));
-        HEADER_BYTES + base + wash
+        let lift = segment_bytes(Segment::lift(self.lift));
+        HEADER_BYTES + base + wash + lift
     }
 
     // How many bytes the block has.
@@ -133,10 +137,13 @@ fn read_numbers(s: &[u8], h: Header) -> [f32; NUMBERS]
 {
     let base = Segment::base();
     let wash = Segment::wash(h.wash);
+    let lift = Segment::lift(h.lift);
     let none = [0.0; NUMBERS];
     let wash_at = HEADER_BYTES + segment_bytes(base);
+    let lift_at = wash_at + segment_bytes(wash);
     let numbers = read_segment(s, HEADER_BYTES, none, base);
-    read_segment(s, wash_at, numbers, wash)
+    let washed = read_segment(s, wash_at, numbers, wash);
+    read_segment(s, lift_at, washed, lift)
 }
 
 // The falloff of its kind and its number.
@@ -228,12 +235,27 @@ pub fn layout_of(xs: [f32; NUMBERS]) -> MotorLayout
     }
 }
 
-// What a row's first byte drives.
+// The layout of the lift rotors.
+pub fn lift_layout_of(xs: [f32; NUMBERS]) -> MotorLayout
+    ensures { λ r. ⌜ r ≡ Block.liftLayoutOf xs ⌝ }
+{
+    MotorLayout {
+        moment_arm_m: xs[50],
+        yaw_torque_per_thrust_m: xs[51],
+        max_thrust_n: xs[48],
+        thrust_exponent: xs[49],
+    }
+}
+
+// What a row's first byte drives: a motor's with the bit 08 is a lift rotor's.
 fn slot_of(b: u8) -> Slot
     ensures { λ r. ⌜ r ≡ Block.slotOf b ⌝ }
 {
     if b / 128 == 0 {
-        return Slot::Motor(b / 16 % 8);
+        if b / 8 % 2 == 0 {
+            return Slot::Motor(b / 16 % 8);
+        }
+        return Slot::Lift(b / 16 % 8);
     }
     Slot::Servo(b / 16 % 8)
 }
@@ -275,14 +297,30 @@ fn read_rows(s: &[u8], start: usize, count: usize) -> Rows
     Rows { rows, count }
 }
 
-// The first of the `count` rows at `start` with a reserved bit set, counted from 1; 0 for none.
-fn reserved_row(s: &[u8], start: usize, count: usize) -> usize
+// Whether a row's first byte has no bit that must be 0: three always must, and 08 on a servo's row and without lift numbers.
+fn bits_clear(b: u8, lift: bool) -> bool
+    ensures { λ r. ⌜ r ≡ Block.bitsClear lift b ⌝ }
+{
+    if b % 8 == 0 {
+        if b / 8 % 2 == 0 {
+            return true;
+        }
+        if b / 128 == 0 {
+            return lift;
+        }
+        return false;
+    }
+    false
+}
+
+// The first of the `count` rows at `start` with a bit set that must be 0, counted from 1; 0 for none.
+fn reserved_row(s: &[u8], lift: bool, start: usize, count: usize) -> usize
     requires { ⌜ count ≤ mostRows ⌝ ∗ do ⌜ start + Block.rowBytes * count ≤ (← ⟦s.len()⟧) ⌝ }
-    ensures { λ r. ⌜ r ≡ Block.reservedRow (now (s .entry)) start count ⌝ }
+    ensures { λ r. ⌜ r ≡ Block.reservedRow (now (s .entry)) lift start count ⌝ }
 {
     let mut k = 0usize;
     while k < count {
-        if s[start + ROW_BYTES * k] % 16 != 0 {
+        if !bits_clear(s[start + ROW_BYTES * k], lift) {
             return k + 1;
         }
         k += 1;
@@ -332,18 +370,25 @@ fn bad_row(rows: Rows) -> usize
 fn airframe_by(xs: [f32; NUMBERS], h: Header, rows: Rows) -> Airframe
     ensures { λ r. ⌜ r ≡ Block.airframeBy xs h rows ⌝ }
 {
-    let mix = lent_rows::mixed(rows, layout_of(xs), xs[38]);
+    let mix = lent_rows::mixed(rows, layout_of(xs), xs[38], lift_layout_of(xs), xs[52]);
     let motors = mix.motors;
+    let rotors = mix.lift;
     let surfaces = mix.surfaces();
     let model = model_of(xs, h.kind);
     let wash = wash_from(xs);
     let weights = surfaces.weights;
+    let lift = LiftRotors {
+        motors: rotors,
+        drag_per_thrust_n_per_mps: xs[53],
+    };
     Airframe {
         model,
         wash_present: h.wash,
         wash,
         motors,
         weights,
+        lift_present: h.lift,
+        lift,
     }
 }
 
@@ -376,7 +421,7 @@ fn read_body(s: &[u8], h: Header) -> AirframeRead
 {
     let start = h.rows_at();
     let count = h.rows;
-    if reserved_row(s, start, count) != 0 {
+    if reserved_row(s, h.lift, start, count) != 0 {
         return refused(Answer::ReservedBit);
     }
     let rows = read_rows(s, start, count);

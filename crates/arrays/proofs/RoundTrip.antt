@@ -7,9 +7,9 @@ use lib.ListN.{getD, length}
 use mathlib.Core.Bool.{Bool, false, true}
 use mathlib.Core.List.{List, map-id}
 use mathlib.Core.Path.{_∙_, _≡_, ap, refl}
-use Rattle.airframe.specs.Numbers.{baseNumbers, coefficientNumbers, falloffNumber, numbersOf, washNumbers}
+use Rattle.airframe.specs.Numbers.{baseNumbers, coefficientNumbers, falloffNumber, liftNumbers, numbersOf, washNumbers}
 use Rattle.airframe.specs.declared.Airframe.{Airframe}
-use Rattle.airframe_block.specs.Block.{coefficientsOf, falloffOf, layoutOf, modelOf, washFrom}
+use Rattle.airframe_block.specs.Block.{coefficientsOf, falloffOf, layoutOf, liftLayoutOf, modelOf, washFrom}
 use Rattle.float.specs.Lists.{listFrom, listOf}
 use Rattle.mixers.specs.Slots.{flagAt, slots, vecAt as slotVec}
 use Rattle.fixed_wing.specs.declared.ThrustFalloff.{ThrustFalloff}
@@ -20,20 +20,21 @@ use Rattle.float.proofs.Zeros.{some-not-zero, zero-is-zero}
 use Rattle.mixers.proofs.Slots.{map-slots}
 use Rattle.vector.specs.Vector.{vec}
 use Rattle.vector.specs.declared.Vec3.{Vec3}
-use Rattle.arrays.specs.Airframe.{airframeNumber, airframeNumbers, airframeIn, axisOf, flagNumber, flagsIn, isSet, kindNumber, kindOf, motorsIn, placesIn, vecsIn, vecsNumber}
+use Rattle.arrays.specs.Airframe.{airframeNumber, airframeNumbers, airframeIn, axisOf, flagNumber, flagsIn, groupIn, isSet, kindNumber, kindOf, liftIn, liftNumber, placeAt, placesIn, vecsIn, vecsNumber}
 use Rattle.arrays.specs.Flight.{flightNumbers, flightIn, quatIn, slotsIn, tickIn, tickNumbers, vecIn}
 
 -- a list of 8 by its elements
 slots-again : {X : Type 0} (d : X) (xs : List X) → length xs ≡ 8 → slots (λ (k : ℕ). getD xs k d) ≡ xs
 slots-again d xs e = map-slots d (λ x. x) xs e ∙ map-id xs
 
-pub flight-again : (f : Flight) → length (f .motors) ≡ 8 → length (f .servos) ≡ 8 → length (f .«thrust_scale») ≡ 8 → flightIn (flightNumbers f) ≡ f
+pub flight-again : (f : Flight) → length (f .motors) ≡ 8 → length (f .servos) ≡ 8 → length (f .«thrust_scale») ≡ 8 → length (f .«lift_motors») ≡ 8 → flightIn (flightNumbers f) ≡ f
 unfolding flightIn flightNumbers vecIn quatIn slotsIn
-flight-again f m s c = λ i. record {
+flight-again f m s c l = λ i. record {
   body = f .body;
   motors = slots-again nan (f .motors) m i;
   servos = slots-again nan (f .servos) s i;
   «thrust_scale» = slots-again nan (f .«thrust_scale») c i;
+  «lift_motors» = slots-again nan (f .«lift_motors») l i;
 }
 
 pub tick-again : (t : Tick) → length (t .motors) ≡ 8 → length (t .servos) ≡ 8 → tickIn (tickNumbers t) ≡ t
@@ -62,9 +63,15 @@ flags-again bs e = ap (λ (f : Bool → Bool). slots (λ (k : ℕ). f (flagAt bs
 vecs-again : (vs : List Vec3) → length vs ≡ 8 → slots (λ (k : ℕ). slotVec vs k) ≡ vs
 vecs-again vs e = slots-again (vec nan nan nan) vs e
 
-pub airframe-again : (a : Airframe) → length (a .motors .used) ≡ 8 → length (a .motors .«torque_per_thrust_m») ≡ 8 → length (a .weights) ≡ 8 → airframeIn (airframeNumbers a) ≡ a
-unfolding airframeIn motorsIn airframeNumbers airframeNumber listOf listFrom placesIn modelOf layoutOf coefficientsOf washFrom numbersOf baseNumbers coefficientNumbers washNumbers flagsIn vecsIn vecIn vecsNumber axisOf
-airframe-again a u t w = λ i. record {
+pub airframe-again : (a : Airframe)
+    → length (a .motors .used) ≡ 8
+    → length (a .motors .«torque_per_thrust_m») ≡ 8
+    → length (a .weights) ≡ 8
+    → length (a .lift .motors .used) ≡ 8
+    → length (a .lift .motors .«torque_per_thrust_m») ≡ 8
+    → airframeIn (airframeNumbers a) ≡ a
+unfolding airframeIn groupIn liftIn airframeNumbers airframeNumber liftNumber listOf listFrom placesIn placeAt modelOf layoutOf liftLayoutOf coefficientsOf washFrom numbersOf baseNumbers coefficientNumbers washNumbers liftNumbers flagsIn vecsIn vecIn vecsNumber axisOf
+airframe-again a u t w u' t' = λ i. record {
   model = record {
     «mass_kg» = a .model .«mass_kg»;
     «inertia_kgm2» = a .model .«inertia_kgm2»;
@@ -86,4 +93,14 @@ airframe-again a u t w = λ i. record {
     «torque_per_thrust_m» = vecs-again (a .motors .«torque_per_thrust_m») t i;
   };
   weights = vecs-again (a .weights) w i;
+  «lift_present» = flag-again (a .«lift_present») i;
+  lift = record {
+    motors = record {
+      layout = a .lift .motors .layout;
+      «time_constant_s» = a .lift .motors .«time_constant_s»;
+      used = flags-again (a .lift .motors .used) u' i;
+      «torque_per_thrust_m» = vecs-again (a .lift .motors .«torque_per_thrust_m») t' i;
+    };
+    «drag_per_thrust_n_per_mps» = a .lift .«drag_per_thrust_n_per_mps»;
+  };
 }

@@ -1,20 +1,23 @@
 -- An airframe as an array of numbers: those by place (01, "Airframe numbers by place"), the falloff's kind (0 Linear, else
 -- PitchSpeed), whether a wash is present, which motors are used (0 no, else yes), the motors' torques and the surfaces' weights
--- (roll, pitch, yaw of each slot). An array grows at its end alone. Definitions only.
+-- (roll, pitch, yaw of each slot); then the lift rotors' numbers, whether they are present, which are used, and their torques
+-- (02, 5). An array grows at its end alone. Definitions only.
 use Prim.Native.Nat.{_%_, _*_, _+_, _-_, _/_, ℕ}
 use lib.Dec.{eqb, ltb}
 use lib.Ieee.{Float, eq}
 use mathlib.Core.Bool.{Bool, cond, not}
 use mathlib.Core.List.{List}
-use Rattle.airframe.specs.Numbers.{numbersCount, numbersOf, washCount, washFirst}
+use Rattle.airframe.specs.Numbers.{liftCount, liftFirst, numbersCount, numbersOf, washCount, washFirst}
 use Rattle.airframe.specs.declared.Airframe.{Airframe}
-use Rattle.airframe_block.specs.Block.{layoutOf, modelOf, motorConstant, washFrom}
+use Rattle.airframe_block.specs.Block.{layoutOf, liftConstant, liftDrag, liftLayoutOf, modelOf, motorConstant, washFrom}
 use Rattle.float.specs.Lists.{listOf}
 use Rattle.mixers.specs.Slots.{at, flagAt, slots, vecAt as slotVec}
 use Rattle.fixed_wing.specs.declared.ThrustFalloff.{ThrustFalloff}
 use Rattle.fixed_wing.specs.declared.ThrustFalloff.the-variants.{Linear, PitchSpeed}
 use Rattle.float.specs.Notation.{nought, one}
 use Rattle.motors.specs.declared.MotorGroup.{MotorGroup}
+use Rattle.motors.specs.declared.MotorLayout.{MotorLayout}
+use Rattle.quadplane_model.specs.declared.LiftRotors.{LiftRotors}
 use Rattle.vector.specs.declared.Vec3.{Vec3}
 use Rattle.arrays.specs.Flight.{vecIn}
 
@@ -34,8 +37,20 @@ torquesAt = usedAt + 8
 abbrev pub weightsAt : ℕ
 weightsAt = torquesAt + 3 * 8
 
+abbrev pub liftNumbersAt : ℕ
+liftNumbersAt = weightsAt + 3 * 8
+
+abbrev pub liftPresentAt : ℕ
+liftPresentAt = liftNumbersAt + liftCount
+
+abbrev pub liftUsedAt : ℕ
+liftUsedAt = liftPresentAt + 1
+
+abbrev pub liftTorquesAt : ℕ
+liftTorquesAt = liftUsedAt + 8
+
 abbrev pub airframeNumbersCount : ℕ
-airframeNumbersCount = weightsAt + 3 * 8
+airframeNumbersCount = liftTorquesAt + 3 * 8
 
 -- ---- from an array
 
@@ -46,22 +61,33 @@ kindOf x = cond (eq x nought) 0 1
 unfoldable pub isSet : Float → Bool
 isSet x = not (eq x nought)
 
+-- where number k of those by place stands
+unfoldable pub placeAt : ℕ → ℕ
+placeAt k = cond (ltb k liftFirst) k (liftNumbersAt + (k - liftFirst))
+
 unfoldable pub placesIn : List Float → List Float
-placesIn xs = listOf (λ (k : ℕ). at xs k) numbersCount
+placesIn xs = listOf (λ (k : ℕ). at xs (placeAt k)) numbersCount
 
 unfoldable pub vecsIn : List Float → ℕ → List Vec3
 vecsIn xs i = slots (λ (k : ℕ). vecIn xs (i + 3 * k))
 
-unfoldable pub flagsIn : List Float → List Bool
-flagsIn xs = slots (λ (k : ℕ). isSet (at xs (usedAt + k)))
+unfoldable pub flagsIn : List Float → ℕ → List Bool
+flagsIn xs i = slots (λ (k : ℕ). isSet (at xs (i + k)))
 
--- the motors along body x, ps being the numbers by place
-unfoldable pub motorsIn : List Float → List Float → MotorGroup
-motorsIn xs ps = record {
-  layout = layoutOf ps;
-  «time_constant_s» = motorConstant ps;
-  used = flagsIn xs;
-  «torque_per_thrust_m» = vecsIn xs torquesAt;
+-- the group whose marks stand at i, with their torques behind them
+unfoldable pub groupIn : List Float → MotorLayout → Float → ℕ → MotorGroup
+groupIn xs l tau i = record {
+  layout = l;
+  «time_constant_s» = tau;
+  used = flagsIn xs i;
+  «torque_per_thrust_m» = vecsIn xs (i + 8);
+}
+
+-- the lift rotors, ps being the numbers by place
+unfoldable pub liftIn : List Float → List Float → LiftRotors
+liftIn xs ps = record {
+  motors = groupIn xs (liftLayoutOf ps) (liftConstant ps) liftUsedAt;
+  «drag_per_thrust_n_per_mps» = liftDrag ps;
 }
 
 unfoldable pub airframeIn : List Float → Airframe
@@ -69,8 +95,10 @@ airframeIn xs = record {
   model = modelOf (placesIn xs) (kindOf (at xs kindAt));
   «wash_present» = isSet (at xs washAt);
   wash = washFrom (placesIn xs);
-  motors = motorsIn xs (placesIn xs);
+  motors = groupIn xs (layoutOf (placesIn xs)) (motorConstant (placesIn xs)) usedAt;
   weights = vecsIn xs weightsAt;
+  «lift_present» = isSet (at xs liftPresentAt);
+  lift = liftIn xs (placesIn xs);
 }
 
 -- ---- to an array
@@ -90,6 +118,14 @@ axisOf v n = cond (eqb n 0) (v .x) (cond (eqb n 1) (v .y) (v .z))
 unfoldable pub vecsNumber : List Vec3 → ℕ → Float
 vecsNumber vs k = axisOf (slotVec vs (k / 3)) (k % 3)
 
+-- from the lift rotors' numbers on
+unfoldable pub liftNumber : Airframe → ℕ → Float
+liftNumber a k =
+    cond (ltb k liftPresentAt) (at (numbersOf a) (liftFirst + (k - liftNumbersAt)))
+    (cond (ltb k liftUsedAt) (flagNumber (a .«lift_present»))
+    (cond (ltb k liftTorquesAt) (flagNumber (flagAt (a .lift .motors .used) (k - liftUsedAt)))
+    (vecsNumber (a .lift .motors .«torque_per_thrust_m») (k - liftTorquesAt))))
+
 unfoldable pub airframeNumber : Airframe → ℕ → Float
 airframeNumber a k =
     cond (ltb k kindAt) (at (numbersOf a) k)
@@ -97,7 +133,8 @@ airframeNumber a k =
     (cond (ltb k usedAt) (flagNumber (a .«wash_present»))
     (cond (ltb k torquesAt) (flagNumber (flagAt (a .motors .used) (k - usedAt)))
     (cond (ltb k weightsAt) (vecsNumber (a .motors .«torque_per_thrust_m») (k - torquesAt))
-    (vecsNumber (a .weights) (k - weightsAt))))))
+    (cond (ltb k liftNumbersAt) (vecsNumber (a .weights) (k - weightsAt))
+    (liftNumber a k))))))
 
 unfoldable pub airframeNumbers : Airframe → List Float
 airframeNumbers a = listOf (airframeNumber a) airframeNumbersCount

@@ -7,7 +7,7 @@ use Rattle.body.specs.declared.Body.{Body}
 use Rattle.flight.specs.declared.Flight.{Flight}
 use Rattle.flight.specs.declared.Tick.{Tick}
 use Rattle.mixers.specs.Slots.{at, slots}
-use Rattle.state_block.specs.Layout.{attitudeAt, motorsAt, numberBytes, ratesAt, scalesAt, servosAt, stateBytes, velocityAt}
+use Rattle.state_block.specs.Layout.{attitudeAt, liftAt, motorsAt, numberBytes, ratesAt, scalesAt, servosAt, stateBytes, velocityAt}
 use Rattle.state_block.specs.Layout.{motorCommandsAt, servoCommandsAt, tickBytes, windAt}
 use Rattle.vector.specs.Rotation.{quat}
 use Rattle.vector.specs.Vector.{vec}
@@ -42,6 +42,7 @@ flightIn xs = record {
   motors = slotsIn xs (motorsAt / numberBytes);
   servos = slotsIn xs (servosAt / numberBytes);
   «thrust_scale» = slotsIn xs (scalesAt / numberBytes);
+  «lift_motors» = slotsIn xs (liftAt / numberBytes);
 }
 
 -- the tick of an array
@@ -69,7 +70,9 @@ bodyThen b more =
     (vecThen (b .«velocity_ned_mps») (quatThen (b .attitude) (vecThen (b .«angular_velocity_radps») more)))
 
 unfoldable pub flightNumbers : Flight → List Float
-flightNumbers f = bodyThen (f .body) (slotsThen (f .motors) (slotsThen (f .servos) (slotsThen (f .«thrust_scale») [])))
+flightNumbers f =
+    bodyThen (f .body)
+    (slotsThen (f .motors) (slotsThen (f .servos) (slotsThen (f .«thrust_scale») (slotsThen (f .«lift_motors») []))))
 
 -- the array of a tick: step, wind, motor commands, servo commands
 unfoldable pub tickNumbers : Tick → List Float

@@ -15,6 +15,8 @@ use fixed_wing::ThrustFalloff;
 use flight::Flight;
 use flight::Tick;
 use motors::MotorGroup;
+use motors::MotorLayout;
+use quadplane_model::LiftRotors;
 use vector::Quaternion;
 use vector::Vec3;
 
@@ -38,14 +40,17 @@ const SERVOS_AT: usize = state_block::SERVOS_AT / state_block::NUMBER_BYTES;
 
 const SCALES_AT: usize = state_block::SCALES_AT / state_block::NUMBER_BYTES;
 
+const LIFT_AT: usize = state_block::LIFT_AT / state_block::NUMBER_BYTES;
+
 const WIND_AT: usize = state_block::WIND_AT / state_block::NUMBER_BYTES;
 
 const MOTOR_COMMANDS_AT: usize = state_block::MOTOR_COMMANDS_AT / state_block::NUMBER_BYTES;
 
 const SERVO_COMMANDS_AT: usize = state_block::SERVO_COMMANDS_AT / state_block::NUMBER_BYTES;
 
-// Of an airframe: its numbers by place, and then at which number the falloff's kind, the wash's flag, the motors' marks, their
-// torques and the surfaces' weights begin. What a later airframe has besides comes after them.
+// Of an airframe: its numbers by place up to 48, and then at which number the falloff's kind, the wash's flag, the motors' marks,
+// their torques and the surfaces' weights begin. What a later airframe has besides comes after them: the lift rotors' numbers by
+// place, their flag, marks and torques (02, 5).
 pub const KIND_AT: usize = airframe::WASH_FIRST + airframe::WASH_COUNT;
 
 pub const WASH_AT: usize = KIND_AT + 1;
@@ -56,7 +61,15 @@ pub const TORQUES_AT: usize = USED_AT + 8;
 
 pub const WEIGHTS_AT: usize = TORQUES_AT + 3 * 8;
 
-pub const AIRFRAME_NUMBERS: usize = WEIGHTS_AT + 3 * 8;
+pub const LIFT_NUMBERS_AT: usize = WEIGHTS_AT + 3 * 8;
+
+pub const LIFT_PRESENT_AT: usize = LIFT_NUMBERS_AT + airframe::LIFT_COUNT;
+
+pub const LIFT_USED_AT: usize = LIFT_PRESENT_AT + 1;
+
+pub const LIFT_TORQUES_AT: usize = LIFT_USED_AT + 8;
+
+pub const AIRFRAME_NUMBERS: usize = LIFT_TORQUES_AT + 3 * 8;
 
 // The vector whose three numbers stand at `at`.
 fn vec_in(xs: &[f32], at: usize) -> Vec3
@@ -112,6 +125,7 @@ pub fn flight_in(xs: &[f32]) -> Flight
     let motors = slots_in(xs, MOTORS_AT);
     let servos = slots_in(xs, SERVOS_AT);
     let thrust_scale = slots_in(xs, SCALES_AT);
+    let lift_motors = slots_in(xs, LIFT_AT);
     let body = Body {
         position_ned_m,
         velocity_ned_mps,
@@ -123,6 +137,7 @@ pub fn flight_in(xs: &[f32]) -> Flight
         motors,
         servos,
         thrust_scale,
+        lift_motors,
     }
 }
 
@@ -154,6 +169,7 @@ pub fn flight_numbers(f: Flight) -> [f32; STATE_NUMBERS]
     let m = f.motors;
     let s = f.servos;
     let c = f.thrust_scale;
+    let l = f.lift_motors;
     [
         p.x,
         p.y,
@@ -192,6 +208,14 @@ pub fn flight_numbers(f: Flight) -> [f32; STATE_NUMBERS]
         c[5],
         c[6],
         c[7],
+        l[0],
+        l[1],
+        l[2],
+        l[3],
+        l[4],
+        l[5],
+        l[6],
+        l[7],
     ]
 }
 
@@ -269,29 +293,33 @@ fn is_set(x: f32) -> bool
     !(x == 0.0)
 }
 
-// The numbers by place.
+// The numbers by place, the lift rotors' last.
 fn places_in(xs: &[f32]) -> [f32; NUMBERS]
-    requires { do ⌜ numbersCount ≤ (← ⟦xs.len()⟧) ⌝ }
+    requires { do ⌜ AirframeArray.airframeNumbersCount ≤ (← ⟦xs.len()⟧) ⌝ }
     ensures { λ r. ⌜ r ≡ AirframeArray.placesIn (now (xs .entry)) ⌝ }
 {
     let mut places = [0.0; NUMBERS];
     let mut k = 0usize;
-    while k < NUMBERS {
+    while k < airframe::LIFT_FIRST {
         places[k] = xs[k];
+        k += 1;
+    }
+    while k < NUMBERS {
+        places[k] = xs[LIFT_NUMBERS_AT + (k - airframe::LIFT_FIRST)];
         k += 1;
     }
     places
 }
 
-// The motors' marks.
-fn flags_in(xs: &[f32]) -> [bool; 8]
-    requires { do ⌜ AirframeArray.torquesAt ≤ (← ⟦xs.len()⟧) ⌝ }
-    ensures { λ r. ⌜ r ≡ AirframeArray.flagsIn (now (xs .entry)) ⌝ }
+// The marks of a group that stand at `at`.
+fn flags_in(xs: &[f32], at: usize) -> [bool; 8]
+    requires { do ⌜ at + 8 ≤ (← ⟦xs.len()⟧) ⌝ }
+    ensures { λ r. ⌜ r ≡ AirframeArray.flagsIn (now (xs .entry)) at ⌝ }
 {
     let mut flags = [false; 8];
     let mut k = 0usize;
     while k < 8 {
-        flags[k] = is_set(xs[USED_AT + k]);
+        flags[k] = is_set(xs[at + k]);
         k += 1;
     }
     flags
@@ -311,19 +339,31 @@ fn vecs_in(xs: &[f32], at: usize) -> [Vec3; 8]
     vecs
 }
 
-// The motors along body x.
-fn motors_in(xs: &[f32], places: [f32; NUMBERS]) -> MotorGroup
-    requires { do ⌜ AirframeArray.weightsAt ≤ (← ⟦xs.len()⟧) ⌝ }
-    ensures { λ r. ⌜ r ≡ AirframeArray.motorsIn (now (xs .entry)) places ⌝ }
+// The group of motors whose marks stand at `used_at`, with their torques behind them.
+fn group_in(xs: &[f32], layout: MotorLayout, time_constant_s: f32, used_at: usize) -> MotorGroup
+    requires { do ⌜ «used_at» + 32 ≤ (← ⟦xs.len()⟧) ⌝ }
+    ensures { λ r. ⌜ r ≡ AirframeArray.groupIn (now (xs .entry)) layout «time_constant_s» «used_at» ⌝ }
 {
-    let layout = airframe_block::layout_of(places);
-    let used = flags_in(xs);
-    let torque_per_thrust_m = vecs_in(xs, TORQUES_AT);
+    let used = flags_in(xs, used_at);
+    let torque_per_thrust_m = vecs_in(xs, used_at + 8);
     MotorGroup {
         layout,
-        time_constant_s: places[38],
+        time_constant_s,
         used,
         torque_per_thrust_m,
+    }
+}
+
+// The lift rotors.
+fn lift_in(xs: &[f32], places: [f32; NUMBERS]) -> LiftRotors
+    requires { do ⌜ AirframeArray.airframeNumbersCount ≤ (← ⟦xs.len()⟧) ⌝ }
+    ensures { λ r. ⌜ r ≡ AirframeArray.liftIn (now (xs .entry)) places ⌝ }
+{
+    let layout = airframe_block::lift_layout_of(places);
+    let motors = group_in(xs, layout, places[52], LIFT_USED_AT);
+    LiftRotors {
+        motors,
+        drag_per_thrust_n_per_mps: places[53],
     }
 }
 
@@ -336,14 +376,18 @@ pub fn airframe_in(xs: &[f32]) -> Airframe
     let model = airframe_block::model_of(places, kind_of(xs[KIND_AT]));
     let wash = airframe_block::wash_from(places);
     let wash_present = is_set(xs[WASH_AT]);
-    let motors = motors_in(xs, places);
+    let motors = group_in(xs, airframe_block::layout_of(places), places[38], USED_AT);
     let weights = vecs_in(xs, WEIGHTS_AT);
+    let lift_present = is_set(xs[LIFT_PRESENT_AT]);
+    let lift = lift_in(xs, places);
     Airframe {
         model,
         wash_present,
         wash,
         motors,
         weights,
+        lift_present,
+        lift,
     }
 }
 
@@ -357,7 +401,18 @@ pub fn refused_place(xs: &[f32]) -> u32
     let wash_present = is_set(xs[WASH_AT]);
     let torques = vecs_in(xs, TORQUES_AT);
     let weights = vecs_in(xs, WEIGHTS_AT);
-    airframe::first_refused(places, falloff, wash_present, true, torques, weights)
+    let lift_present = is_set(xs[LIFT_PRESENT_AT]);
+    let lift_torques = vecs_in(xs, LIFT_TORQUES_AT);
+    airframe::first_refused(
+        places,
+        falloff,
+        wash_present,
+        true,
+        torques,
+        weights,
+        lift_present,
+        lift_torques,
+    )
 }
 
 fn flag_number(b: bool) -> f32
@@ -391,7 +446,7 @@ fn vecs_number(vecs: [Vec3; 8], k: usize) -> f32
     v.z
 }
 
-// The number of place k + 1.
+// Number k of those by place.
 fn place_number(a: Airframe, k: usize) -> f32
     requires { ⌜ k < numbersCount ⌝ }
     ensures { λ r. ⌜ r ≡ at (numbersOf a) k ⌝ }
@@ -400,14 +455,33 @@ fn place_number(a: Airframe, k: usize) -> f32
     places[k]
 }
 
-// Whether motor k is used, as a number.
-fn used_number(a: Airframe, k: usize) -> f32
+// Whether motor k of a group is used, as a number.
+fn used_number(group: MotorGroup, k: usize) -> f32
     requires { ⌜ k < 8 ⌝ }
-    ensures { λ r. ⌜ r ≡ AirframeArray.flagNumber (flagAt (a .motors .used) k) ⌝ }
+    ensures { λ r. ⌜ r ≡ AirframeArray.flagNumber (flagAt (group .used) k) ⌝ }
 {
-    let group = a.motors;
     let used = group.used;
     flag_number(used[k])
+}
+
+// Number k of the airframe's array, of those of the lift rotors.
+fn lift_number(a: Airframe, k: usize) -> f32
+    requires { ⌜ AirframeArray.liftNumbersAt ≤ k ⌝ ∗ ⌜ k < AirframeArray.airframeNumbersCount ⌝ }
+    ensures { λ r. ⌜ r ≡ AirframeArray.liftNumber a k ⌝ }
+{
+    let lift = a.lift;
+    let group = lift.motors;
+    let torques = group.torque_per_thrust_m;
+    if k < LIFT_PRESENT_AT {
+        return place_number(a, airframe::LIFT_FIRST + (k - LIFT_NUMBERS_AT));
+    }
+    if k < LIFT_USED_AT {
+        return flag_number(a.lift_present);
+    }
+    if k < LIFT_TORQUES_AT {
+        return used_number(group, k - LIFT_USED_AT);
+    }
+    vecs_number(torques, k - LIFT_TORQUES_AT)
 }
 
 // Number k of the airframe's array.
@@ -430,12 +504,15 @@ fn airframe_number(a: Airframe, k: usize) -> f32
         return flag_number(a.wash_present);
     }
     if k < TORQUES_AT {
-        return used_number(a, k - USED_AT);
+        return used_number(group, k - USED_AT);
     }
     if k < WEIGHTS_AT {
         return vecs_number(torques, k - TORQUES_AT);
     }
-    vecs_number(weights, k - WEIGHTS_AT)
+    if k < LIFT_NUMBERS_AT {
+        return vecs_number(weights, k - WEIGHTS_AT);
+    }
+    lift_number(a, k)
 }
 
 // The airframe's numbers into an array of their count.

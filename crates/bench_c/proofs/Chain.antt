@@ -16,14 +16,16 @@ use Rattle.arrays.specs.Airframe.{airframeIn, airframeNumbersCount}
 use Rattle.arrays.specs.Flight.{flightIn, slotsIn, tickIn}
 use Rattle.flight.specs.declared.Flight.{Flight}
 use Rattle.flight.specs.declared.Tick.{Tick}
+use Rattle.float.proofs.Tests.{either}
 use Rattle.motors.specs.Motor.{spinOf}
+use Rattle.quadplane_model.specs.Lift.{rotorsSpun}
 use Rattle.ordered.proofs.Ordered.{some-eqb}
 use Rattle.run.proofs.Calls.{OneCall, chain-calls}
 use Rattle.run.specs.Calls.{Chain, Each}
 use Rattle.run.specs.Run.{callsOf}
 use Rattle.surfaces.specs.Surface.{moveTo}
 use Rattle.wing.proofs.Passed.{of-tick}
-use Rattle.wing.specs.Tick.{movedOf, nextFrom, nextOf, refusedOf, spunOf, steppedOf, tickOf}
+use Rattle.wing.specs.Tick.{liftSpun, liftedOf, movedOf, nextFrom, nextOf, refusedOf, spunOf, steppedOf, tickOf}
 use Rattle.wing.specs.declared.Ticked.{Ticked}
 use Rattle.bench_c.specs.Library.{ArrayCall, Tells, TickOutcome, isDone, stateAfterTick, tested, tick, tickLengths, tickPrepared, tickedBy}
 
@@ -35,16 +37,25 @@ refused-left : (state : List Float) (x : Answer) → isDone x ≡ false → Left
 unfolding stateAfterTick refusedOf
 refused-left state x e = rw e refl
 
-next-left : (a : Airframe) (state : List Float) (f : Flight) (t : Tick) → length (f .«thrust_scale») ≡ 8 → Left state (nextOf a f t)
+-- the lift rotors that spin, or not, are 8 again
+lifted-eight : (a : Airframe) (f : Flight) (commands : List Float) (h : Float) → length (f .«lift_motors») ≡ 8 → length (liftedOf a f commands h) ≡ 8
+unfolding liftedOf liftSpun rotorsSpun spinOf
+lifted-eight a f commands h e = either (λ (xs : List Float). length xs ≡ 8) (a .«lift_present») refl e
+
+next-left : (a : Airframe) (state : List Float) (f : Flight) (t : Tick) → length (f .«thrust_scale») ≡ 8 → length (f .«lift_motors») ≡ 8 → Left state (nextOf a f t)
 unfolding stateAfterTick nextOf nextFrom steppedOf spunOf movedOf spinOf moveTo
-next-left a state f t e = flight-again _ refl refl e
+next-left a state f t e l = flight-again _ refl refl e (lifted-eight a f (t .motors) (t .«step_s») l)
 
 scales-are-eight : (state : List Float) → length (flightIn state .«thrust_scale») ≡ 8
 unfolding flightIn slotsIn
 scales-are-eight state = refl
 
+rotors-are-eight : (state : List Float) → length (flightIn state .«lift_motors») ≡ 8
+unfolding flightIn slotsIn
+rotors-are-eight state = refl
+
 tick-left : (a : Airframe) (state : List Float) (t : Tick) → Left state (tickOf a (flightIn state) t)
-tick-left a state t = of-tick (Left state) a (flightIn state) t (λ x n. refused-left state x (some-eqb (numberOf x) n)) (λ p. next-left a state (flightIn state) t (scales-are-eight state))
+tick-left a state t = of-tick (Left state) a (flightIn state) t (λ x n. refused-left state x (some-eqb (numberOf x) n)) (λ p. next-left a state (flightIn state) t (scales-are-eight state) (rotors-are-eight state))
 
 -- ---- one call that ticks with the airframe a, whatever form it has
 abbrev TicksWith : Airframe → (List Float → List Float → List Float → TickOutcome) → Type 0

@@ -83,6 +83,7 @@ arrays-mirror h = record {
   motors = ap (λ (m : List Float). slots (λ (k : ℕ). at m k)) (h .motors);
   servos = ap (λ (m : List Float). slots (λ (k : ℕ). at m k)) (h .servos);
   scale = ap (λ (m : List Float). slots (λ (k : ℕ). at m k)) (h .scale);
+  lift = ap (λ (m : List Float). slots (λ (k : ℕ). at m k)) (h .lift);
 }
 
 pair-mirror : (state reflected : List Float) (r r' : Ran) → RanRel r r' → numberOf (r .answer) ≡ 0 → FlightRel (flightIn (stateAfterRun state r)) (flightIn (stateAfterRun reflected r'))

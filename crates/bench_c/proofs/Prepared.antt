@@ -24,6 +24,8 @@ pub record Eights (a : Airframe) : Type 0 where
   pub used : length (a .motors .used) ≡ 8
   pub torques : length (a .motors .«torque_per_thrust_m») ≡ 8
   pub weights : length (a .weights) ≡ 8
+  pub lift-used : length (a .lift .motors .used) ≡ 8
+  pub lift-torques : length (a .lift .motors .«torque_per_thrust_m») ≡ 8
 
 -- what `bench_prepare` leaves in an array, given to `bench_tick_prepared`
 pub prepared-tick : (block : List ℕ) (array state t report : List Float) → length array ≡ airframeNumbersCount → isDone (readAirframeOf block .answer) ≡ true → Eights (readAirframeOf block .airframe)
@@ -32,4 +34,4 @@ unfolding prepare tickPrepared tick tickedBy
 prepared-tick block array state t report l e h =
     let a = readAirframeOf block .airframe in
     rw (eq-eqb _ _ l, eq-eqb _ _ (length-numbers a), e)
-    (ap (λ (a : Airframe). cond (tickLengths (length state) (length t) (length report)) (tested state (tickOf a (flightIn state) (tickIn t))) (untested state report)) (airframe-again a (h .used) (h .torques) (h .weights)))
+    (ap (λ (a : Airframe). cond (tickLengths (length state) (length t) (length report)) (tested state (tickOf a (flightIn state) (tickIn t))) (untested state report)) (airframe-again a (h .used) (h .torques) (h .weights) (h .lift-used) (h .lift-torques)))

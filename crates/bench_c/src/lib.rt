@@ -115,7 +115,8 @@ pub extern "C" fn bench_prepare(block: &[u8], airframe: &mut [f32]) -> u64
     reply(answer)
 }
 
-// Reads a state block into an array, with thrust scales of 1 where the block has none; a refused block gives the zero state.
+// Reads a state block into an array, with thrust scales of 1 and lift rotors at 0 where the block has none; a refused block gives
+// the zero state.
 #[no_mangle]
 pub extern "C" fn bench_read_state(block: &[u8], state: &mut [f32]) -> u64
     ensures { λ r. ⌜ (let o = Library.readState (now (block .entry)) (now (state .entry)) in
@@ -131,7 +132,7 @@ pub extern "C" fn bench_read_state(block: &[u8], state: &mut [f32]) -> u64
     reply(answer)
 }
 
-// Writes a state's array into a block of 148 bytes.
+// Writes a state's array into a block of 180 bytes.
 #[no_mangle]
 pub extern "C" fn bench_write_state(state: &[f32], block: &mut [u8]) -> u64
     ensures { λ r. ⌜ (let o = Library.writeState (now (state .entry)) (now (block .entry)) in

@@ -9,11 +9,16 @@ use Rattle.vector.specs.Reflection.{QuatRel, VecRel}
 use Rattle.vector.specs.Vector.{componentMul}
 use Rattle.vector.specs.declared.Quaternion.{Quaternion}
 use Rattle.vector.specs.declared.Vec3.{Vec3}
-use Rattle.body.specs.Motion.{accelerationOf, airVelocity, gravity, netTorque, nextAttitude, nextPosition, nextRates, nextVelocity, stepOf}
-use Rattle.body.specs.Reflection.{BodyRel, LoadsRel, reflectBody}
+use Rattle.body.specs.Motion.{accelerationOf, addWrench, airVelocity, gravity, netTorque, nextAttitude, nextPosition, nextRates, nextVelocity, stepOf}
+use Rattle.body.specs.Reflection.{BodyRel, LoadsRel, WrenchRel, reflectBody}
 use Rattle.body.specs.declared.Body.{Body}
 use Rattle.body.specs.declared.Loads.{Loads}
 use Rattle.body.specs.declared.MassProperties.{MassProperties}
+use Rattle.body.specs.declared.Wrench.{Wrench}
+
+pub add-wrench-mirror : {w w' u u' : Wrench} → WrenchRel w w' → WrenchRel u u' → WrenchRel (addWrench w u) (addWrench w' u')
+unfolding addWrench
+add-wrench-mirror h k = record { force = add-mirror (h .force) (k .force); torque = add-mirror (h .torque) (k .torque) }
 
 acceleration-mirror : {f f' : Vec3} (m : Float) → VecRel false f f' → VecRel false (accelerationOf f m) (accelerationOf f' m)
 unfolding accelerationOf

@@ -8,6 +8,14 @@ use Rattle.vector.specs.declared.Vec3.{Vec3}
 use Rattle.body.specs.declared.Body.{Body}
 use Rattle.body.specs.declared.Loads.{Loads}
 use Rattle.body.specs.declared.MassProperties.{MassProperties}
+use Rattle.body.specs.declared.Wrench.{Wrench}
+
+-- force to force and torque to torque
+unfoldable pub addWrench : Wrench → Wrench → Wrench
+addWrench w u = record {
+  «force_n» = addOf (w .«force_n») (u .«force_n»);
+  «torque_nm» = addOf (w .«torque_nm») (u .«torque_nm»);
+}
 
 -- gravity, in m/s²
 abbrev pub gravity : Float

@@ -4,6 +4,7 @@ use mathlib.Core.Bool.{false, true}
 use Rattle.vector.specs.Reflection.{QuatRel, VecRel, reflectAxis, reflectQuat, reflectVec}
 use Rattle.body.specs.declared.Body.{Body}
 use Rattle.body.specs.declared.Loads.{Loads}
+use Rattle.body.specs.declared.Wrench.{Wrench}
 
 -- by flipping sign bits
 unfoldable pub reflectBody : Body → Body
@@ -20,6 +21,10 @@ pub record BodyRel (b b' : Body) : Type 0 where
   pub velocity : VecRel false (b .«velocity_ned_mps») (b' .«velocity_ned_mps»)
   pub attitude : QuatRel (b .attitude) (b' .attitude)
   pub rates : VecRel true (b .«angular_velocity_radps») (b' .«angular_velocity_radps»)
+
+pub record WrenchRel (w w' : Wrench) : Type 0 where
+  pub force : VecRel false (w .«force_n») (w' .«force_n»)
+  pub torque : VecRel true (w .«torque_nm») (w' .«torque_nm»)
 
 pub record LoadsRel (l l' : Loads) : Type 0 where
   pub force : VecRel false (l .«force_ned_n») (l' .«force_ned_n»)

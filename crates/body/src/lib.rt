@@ -27,6 +27,12 @@ pub struct MassProperties {
     pub inertia_kgm2: Vec3,
 }
 
+// Force and torque on body axes.
+pub struct Wrench {
+    pub force_n: Vec3,
+    pub torque_nm: Vec3,
+}
+
 // What acts on the body over a step, without its weight.
 pub struct Loads {
     // F of module 7, on NED axes.
@@ -35,6 +41,19 @@ pub struct Loads {
     pub torque_nm: Vec3,
     // Taken off the torque; the tick has zeros here.
     pub damping_nm: Vec3,
+}
+
+impl Wrench {
+    // Both together.
+    pub fn add(self, w: Wrench) -> Self
+        ensures { λ r. ⌜ r ≡ Motion.addWrench self w ⌝ }
+    {
+        let force = self.force_n;
+        let torque = self.torque_nm;
+        let force_n = force.add(w.force_n);
+        let torque_nm = torque.add(w.torque_nm);
+        Wrench { force_n, torque_nm }
+    }
 }
 
 impl Body {

@@ -3,3 +3,4 @@ pub mod Table
 pub mod Wide
 pub mod Wind
 pub mod Shares
+pub mod Lift

@@ -84,6 +84,7 @@ pub inside-all : (f : Flight)
     (and (inside (rounded 9 10) (rounded 11 10) (quatNorm (f .body .attitude)))
     (and (vecInside (rounded 100 1) (f .body .«angular_velocity_radps»))
     (and (allPass (slotInside nought one (f .motors)) 8)
-    (and (allPass (slotInside minusOne one (f .servos)) 8) (allPass (slotInside nought one (f .«thrust_scale»)) 8))))))
+    (and (allPass (slotInside minusOne one (f .servos)) 8)
+    (and (allPass (slotInside nought one (f .«thrust_scale»)) 8) (allPass (slotInside nought one (f .«lift_motors»)) 8)))))))
 unfolding isInside outsideOf
 inside-all f = simp (none-or, none-after, none-vec, none-attitude, none-slots)

@@ -24,12 +24,12 @@ attitude-outside-is h = rw (quat-norm-is h)
 
 pub outside-is : {f f' : Flight} → FlightRel f f' → outsideOf f' ≡ outsideOf f
 unfolding outsideOf
-outside-is h = rw (vec-outside-is (rounded 1000000 1) (h .body .position), vec-outside-is (rounded 1000 1) (h .body .velocity), attitude-outside-is (h .body .attitude), vec-outside-is (rounded 100 1) (h .body .rates), h .motors, h .servos, h .scale)
+outside-is h = rw (vec-outside-is (rounded 1000000 1) (h .body .position), vec-outside-is (rounded 1000 1) (h .body .velocity), attitude-outside-is (h .body .attitude), vec-outside-is (rounded 100 1) (h .body .rates), h .motors, h .servos, h .scale, h .lift)
 
 -- the reflection by flipping sign bits is one
 pub reflect-flight : (f : Flight) → FlightRel f (reflectFlight f)
 unfolding reflectFlight
-reflect-flight f = record { body = reflect-body (f .body); motors = refl; servos = refl; scale = refl }
+reflect-flight f = record { body = reflect-body (f .body); motors = refl; servos = refl; scale = refl; lift = refl }
 
 pub reflect-tick : (t : Tick) → TickRel t (reflectTick t)
 unfolding reflectTick

@@ -1,4 +1,4 @@
--- What a state inside the envelope tells of its velocity, its attitude's N, its running values and its thrust scales. Assumes nothing.
+-- What a state inside the envelope tells of its velocity, its attitude's N, its running values, the lift rotors' too, and its thrust scales. Assumes nothing.
 use Prim.Native.Nat.{_<_, ℕ}
 use borrow.Author.Tests.{eq-eqb}
 use mathlib.Core.Path.{_∙_, _≡_, sym}
@@ -26,14 +26,15 @@ module _ (f : Flight) (e : outsideOf f ≡ 0) where
       let n = after-none _ _ (or-none _ _ (or-none _ _ (or-none _ _ e .1) .1) .0) in
       inside-within (sym (none-attitude _) ∙ eq-eqb _ _ n)
 
-  slots-none : (slotsOutside nought one (f .motors) ≡ 0) × (slotsOutside minusOne one (f .servos) ≡ 0) × (slotsOutside nought one (f .«thrust_scale») ≡ 0)
+  slots-none : (slotsOutside nought one (f .motors) ≡ 0) × (slotsOutside minusOne one (f .servos) ≡ 0) × (slotsOutside nought one (f .«thrust_scale») ≡ 0) × (slotsOutside nought one (f .«lift_motors») ≡ 0)
   unfolding outsideOf
   slots-none =
       let after-velocity = or-none _ _ (or-none _ _ e .1) .1 in
       let after-rates = or-none _ _ (or-none _ _ after-velocity .1) .1 in
       let motors = or-none _ _ after-rates in
       let servos = or-none _ _ (motors .1) in
-      (after-none _ _ (motors .0), after-none _ _ (servos .0), after-none _ _ (servos .1))
+      let scales = or-none _ _ (servos .1) in
+      (after-none _ _ (motors .0), after-none _ _ (servos .0), after-none _ _ (scales .0), after-none _ _ (scales .1))
 
   pub motor-within : (k : ℕ) → k < 8 → Within nought one (at (f .motors) k)
   unfolding slotsOutside slotInside
@@ -46,3 +47,7 @@ module _ (f : Flight) (e : outsideOf f ≡ 0) where
   pub scale-within : (k : ℕ) → k < 8 → Within nought one (at (f .«thrust_scale») k)
   unfolding slotsOutside slotInside
   scale-within k l = inside-within (all-pass (slotInside nought one (f .«thrust_scale»)) 8 (slots-none .2) k l)
+
+  pub lift-within : (k : ℕ) → k < 8 → Within nought one (at (f .«lift_motors») k)
+  unfolding slotsOutside slotInside
+  lift-within k l = inside-within (all-pass (slotInside nought one (f .«lift_motors»)) 8 (slots-none .3) k l)

@@ -1,5 +1,6 @@
--- The envelope (01, "Envelope"; 02, 2): position within ±1,000,000, velocity ±1,000, N in 0.9..1.1, rates ±100, motors 0..1, servos
--- -1..1, thrust scales 0..1, all slots. One ordered definition that names the first test that breaks; a NaN is outside, -0 is 0. Definitions only.
+-- The envelope (01, "Envelope"; 02, 2 and 5): position within ±1,000,000, velocity ±1,000, N in 0.9..1.1, rates ±100, motors 0..1,
+-- servos -1..1, thrust scales 0..1, lift rotors 0..1, all slots. One ordered definition that names the first test that breaks; a
+-- NaN is outside, -0 is 0. Definitions only.
 use Prim.Native.Nat.{ℕ}
 use lib.Dec.{eqb}
 use lib.Ieee.{Float, low, neg}
@@ -27,6 +28,7 @@ zeroFlight = record {
   motors = replicate 8 nought;
   servos = replicate 8 nought;
   «thrust_scale» = replicate 8 nought;
+  «lift_motors» = replicate 8 nought;
 }
 
 -- a vector's components, each within ±limit
@@ -47,7 +49,7 @@ unfoldable pub attitudeOutside : Quaternion → ℕ
 attitudeOutside q = cond (inside (rounded 9 10) (rounded 11 10) (quatNorm q)) 0 1
 
 -- a line for each part, as they stand in a state, after as many tests as stand before it: 3 of position, 3 of velocity, the
--- attitude, 3 of rates, 8 motors, 8 servos, 8 thrust scales
+-- attitude, 3 of rates, 8 motors, 8 servos, 8 thrust scales, 8 lift rotors
 unfoldable pub outsideOf : Flight → ℕ
 outsideOf f =
     firstOf
@@ -58,6 +60,7 @@ outsideOf f =
     ∷ after 10 (slotsOutside nought one (f .motors))
     ∷ after 18 (slotsOutside minusOne one (f .servos))
     ∷ after 26 (slotsOutside nought one (f .«thrust_scale»))
+    ∷ after 34 (slotsOutside nought one (f .«lift_motors»))
     ∷ [])
 
 -- an accepted state

@@ -1,5 +1,6 @@
 -- The reflection of a state and of a tick (01, "Reflection negates"): a state's body is reflected, a tick's wind turns in east,
--- all else stays, the thrust scales too (02, 2). And what it is for one state or tick to be the other's reflection as numbers. Definitions only.
+-- all else stays, the thrust scales (02, 2) and the lift rotors' values (02, 5) too. And what it is for one state or tick to be the
+-- other's reflection as numbers. Definitions only.
 use mathlib.Core.Bool.{false}
 use mathlib.Core.Path.{_≡_}
 use Rattle.body.specs.Reflection.{BodyRel, reflectBody}
@@ -13,6 +14,7 @@ reflectFlight f = record {
   motors = f .motors;
   servos = f .servos;
   «thrust_scale» = f .«thrust_scale»;
+  «lift_motors» = f .«lift_motors»;
 }
 
 unfoldable pub reflectTick : Tick → Tick
@@ -29,6 +31,7 @@ pub record FlightRel (f f' : Flight) : Type 0 where
   pub motors : f' .motors ≡ f .motors
   pub servos : f' .servos ≡ f .servos
   pub scale : f' .«thrust_scale» ≡ f .«thrust_scale»
+  pub lift : f' .«lift_motors» ≡ f .«lift_motors»
 
 pub record TickRel (t t' : Tick) : Type 0 where
   pub step : t' .«step_s» ≡ t .«step_s»

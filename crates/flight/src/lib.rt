@@ -15,6 +15,8 @@ pub struct Flight {
     pub servos: [f32; 8],
     // By motor slot: 1 as built, 0 gives no thrust (02, 2). No tick changes them.
     pub thrust_scale: [f32; 8],
+    // What the lift rotors run at (02, 5); without lift numbers no tick changes them.
+    pub lift_motors: [f32; 8],
 }
 
 // One tick's step, wind (NED) and commands.
@@ -40,6 +42,7 @@ impl Flight {
         let motors = [0.0; 8];
         let servos = [0.0; 8];
         let thrust_scale = [0.0; 8];
+        let lift_motors = [0.0; 8];
         let body = Body {
             position_ned_m: zero,
             velocity_ned_mps: zero,
@@ -51,6 +54,7 @@ impl Flight {
             motors,
             servos,
             thrust_scale,
+            lift_motors,
         }
     }
 
@@ -62,6 +66,7 @@ impl Flight {
         let running = self.motors;
         let positions = self.servos;
         let thrust_scale = self.thrust_scale;
+        let lifting = self.lift_motors;
         let position = vec_outside(body.position_ned_m, 1000000.0);
         let velocity = ordered::after(3, vec_outside(body.velocity_ned_mps, 1000.0));
         let attitude = ordered::after(6, attitude_outside(body.attitude));
@@ -69,6 +74,7 @@ impl Flight {
         let motors = ordered::after(10, slots_outside(running, 0.0, 1.0));
         let servos = ordered::after(18, slots_outside(positions, -1.0, 1.0));
         let scales = ordered::after(26, slots_outside(thrust_scale, 0.0, 1.0));
+        let lift = ordered::after(34, slots_outside(lifting, 0.0, 1.0));
         ordered::or_else(
             position,
             ordered::or_else(
@@ -77,7 +83,10 @@ impl Flight {
                     attitude,
                     ordered::or_else(
                         rates,
-                        ordered::or_else(motors, ordered::or_else(servos, scales)),
+                        ordered::or_else(
+                            motors,
+                            ordered::or_else(servos, ordered::or_else(scales, lift)),
+                        ),
                     ),
                 ),
             ),
@@ -150,6 +159,7 @@ impl Flight {
         let running = self.motors;
         let positions = self.servos;
         let thrust_scale = self.thrust_scale;
+        let lifting = self.lift_motors;
         let position = body.position_ned_m.is_inside(1000000.0);
         let velocity = body.velocity_ned_mps.is_inside(1000.0);
         let attitude = float::inside(body.attitude.norm_squared(), 0.9, 1.1);
@@ -157,13 +167,17 @@ impl Flight {
         let motors = slots_inside(running, 0.0, 1.0);
         let servos = slots_inside(positions, -1.0, 1.0);
         let scales = slots_inside(thrust_scale, 0.0, 1.0);
+        let lift = slots_inside(lifting, 0.0, 1.0);
         ordered::both(
             position,
             ordered::both(
                 velocity,
                 ordered::both(
                     attitude,
-                    ordered::both(rates, ordered::both(motors, ordered::both(servos, scales))),
+                    ordered::both(
+                        rates,
+                        ordered::both(motors, ordered::both(servos, ordered::both(scales, lift))),
+                    ),
                 ),
             ),
         )
@@ -171,7 +185,7 @@ impl Flight {
 }
 
 impl Flight {
-    // The reflection of left and right: motors and servos run as they do, and are as strong.
+    // The reflection of left and right: motors, servos and lift rotors run as they do, and are as strong.
     pub fn reflected(self) -> Self
         ensures { λ r. ⌜ r ≡ Reflection.reflectFlight self ⌝ }
     {
@@ -179,11 +193,13 @@ impl Flight {
         let motors = self.motors;
         let servos = self.servos;
         let thrust_scale = self.thrust_scale;
+        let lift_motors = self.lift_motors;
         Flight {
             body: body.reflected(),
             motors,
             servos,
             thrust_scale,
+            lift_motors,
         }
     }
 }

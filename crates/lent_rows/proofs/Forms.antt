@@ -11,7 +11,7 @@ use native.Mathlib.Omega.{arith}
 use Rattle.mixers.specs.Rows.{liveOf, noRow, putTo}
 use Rattle.mixers.specs.declared.MixRow.{MixRow}
 use Rattle.mixers.specs.declared.Rows.{Rows}
-use Rattle.motors.specs.Motor.{groupOf, putOf as motorPut, undriven}
+use Rattle.motors.specs.Motor.{groupOf, liftGroupOf, putLiftOf as liftPut, putOf as motorPut, undriven}
 use Rattle.motors.specs.declared.MotorLayout.{MotorLayout}
 use Rattle.surfaces.specs.Surface.{factorsOf, noFactors, putOf as servoPut, surfacesOf}
 use Rattle.lent_rows.specs.Mixing.{mixFrom, mixOf, putOf, startOf, surfacesIn}
@@ -31,13 +31,14 @@ list-as-array m [] (suc n) l = absurd (not-suc-le-zero l)
 list-as-array m (row ∷ rows) (suc n) l = list-as-array (putOf m row) rows n (le-of-suc-le-suc l) ∙ sym (put-first putOf m row rows n)
 
 -- a mix is filled part by part: each part sees the rows alone
-abbrev parts : MotorLayout → Float → List MixRow → ℕ → Mix
-parts l tau rows n = record { motors = putTo motorPut (undriven l tau) rows n; factors = putTo servoPut noFactors rows n }
+module _ (l : MotorLayout) (tau : Float) (l' : MotorLayout) (tau' : Float) where
+  abbrev parts : List MixRow → ℕ → Mix
+  parts rows n = record { motors = putTo motorPut (undriven l tau) rows n; lift = putTo liftPut (undriven l' tau') rows n; factors = putTo servoPut noFactors rows n }
 
-by-parts : (l : MotorLayout) (tau : Float) (rows : List MixRow) (n : ℕ) → putTo putOf (startOf l tau) rows n ≡ parts l tau rows n
-unfolding putTo startOf putOf
-by-parts l tau rows zero = refl
-by-parts l tau rows (suc n) = ap (λ (m : Mix). putOf m (getD rows n noRow)) (by-parts l tau rows n)
+  by-parts : (rows : List MixRow) (n : ℕ) → putTo putOf (startOf l tau l' tau') rows n ≡ parts rows n
+  unfolding putTo startOf putOf
+  by-parts rows zero = refl
+  by-parts rows (suc n) = ap (λ (m : Mix). putOf m (getD rows n noRow)) (by-parts rows n)
 
 live-at : (rows : Rows) (t : Bool) → ltb (rows .count) 16 ≡ t → cond t (rows .count) 16 ≤ 16
 live-at rows true e = omega (arith, ltb→lt (rows .count) 16 (subst Holds (sym e) tt))
@@ -48,17 +49,22 @@ unfolding liveOf
 live-most rows = live-at rows (ltb (rows .count) 16) refl
 
 -- what the lent list fills is what the array form fills
-pub lent-parts : (rows : Rows) (l : MotorLayout) (tau : Float) → length (rows .rows) ≡ 16 → mixOf rows l tau ≡ parts l tau (rows .rows) (liveOf rows)
-unfolding mixOf
-lent-parts rows l tau long =
-    list-as-array (startOf l tau) (rows .rows) (liveOf rows) (omega (arith, live-most rows, long)) ∙ by-parts l tau (rows .rows) (liveOf rows)
+module _ (rows : Rows) (l : MotorLayout) (tau : Float) (l' : MotorLayout) (tau' : Float) (long : length (rows .rows) ≡ 16) where
+  pub lent-parts : mixOf rows l tau l' tau' ≡ parts l tau l' tau' (rows .rows) (liveOf rows)
+  unfolding mixOf
+  lent-parts = list-as-array (startOf l tau l' tau') (rows .rows) (liveOf rows) (omega (arith, live-most rows, long)) ∙ by-parts l tau l' tau' (rows .rows) (liveOf rows)
 
--- the motors
-pub lent-motors : (rows : Rows) (l : MotorLayout) (tau : Float) → length (rows .rows) ≡ 16 → mixOf rows l tau .motors ≡ groupOf rows l tau
-unfolding groupOf
-lent-motors rows l tau long = ap (λ (m : Mix). m .motors) (lent-parts rows l tau long)
+  -- the motors
+  pub lent-motors : mixOf rows l tau l' tau' .motors ≡ groupOf rows l tau
+  unfolding groupOf
+  lent-motors = ap (λ (m : Mix). m .motors) lent-parts
 
--- and the servos
-pub lent-surfaces : (rows : Rows) (l : MotorLayout) (tau : Float) → length (rows .rows) ≡ 16 → surfacesIn (mixOf rows l tau) ≡ surfacesOf rows
-unfolding surfacesIn surfacesOf factorsOf
-lent-surfaces rows l tau long = ap surfacesIn (lent-parts rows l tau long)
+  -- the lift rotors
+  pub lent-lift : mixOf rows l tau l' tau' .lift ≡ liftGroupOf rows l' tau'
+  unfolding liftGroupOf
+  lent-lift = ap (λ (m : Mix). m .lift) lent-parts
+
+  -- and the servos
+  pub lent-surfaces : surfacesIn (mixOf rows l tau l' tau') ≡ surfacesOf rows
+  unfolding surfacesIn surfacesOf factorsOf
+  lent-surfaces = ap surfacesIn lent-parts

@@ -7,19 +7,19 @@ use Rattle.float.specs.Notation.{nought}
 use Rattle.mixers.specs.Rows.{liveOf}
 use Rattle.mixers.specs.declared.MixRow.{MixRow}
 use Rattle.mixers.specs.declared.Rows.{Rows}
-use Rattle.motors.specs.Motor.{putOf as motorPut, undriven}
+use Rattle.motors.specs.Motor.{putLiftOf as liftPut, putOf as motorPut, undriven}
 use Rattle.motors.specs.declared.MotorLayout.{MotorLayout}
 use Rattle.surfaces.specs.Surface.{noFactors, putOf as servoPut, weighed}
 use Rattle.surfaces.specs.declared.Surfaces.{Surfaces}
 use Rattle.lent_rows.specs.declared.Mix.{Mix}
 
--- before the first row no motor and no servo is driven
-unfoldable pub startOf : MotorLayout → Float → Mix
-startOf l tau = record { motors = undriven l tau; factors = noFactors }
+-- before the first row no motor, no lift rotor and no servo is driven
+unfoldable pub startOf : MotorLayout → Float → MotorLayout → Float → Mix
+startOf l tau l' tau' = record { motors = undriven l tau; lift = undriven l' tau'; factors = noFactors }
 
--- one row: a motor row goes to the motors, a servo row to the factors (01, modules 2 and 3)
+-- one row: a motor's goes to the motors, a lift rotor's to the lift rotors, a servo's to the factors (01, modules 2 and 3; 02, 5)
 unfoldable pub putOf : Mix → MixRow → Mix
-putOf m row = record { motors = motorPut (m .motors) row; factors = servoPut (m .factors) row }
+putOf m row = record { motors = motorPut (m .motors) row; lift = liftPut (m .lift) row; factors = servoPut (m .factors) row }
 
 -- the rows of a list in their order: of several for one slot the last counts
 unfoldable pub mixFrom : Mix → List MixRow → Mix
@@ -27,8 +27,8 @@ mixFrom m [] = m
 mixFrom m (row ∷ rows) = mixFrom (putOf m row) rows
 
 -- the rows of the array form, as a list
-unfoldable pub mixOf : Rows → MotorLayout → Float → Mix
-mixOf rows l tau = mixFrom (startOf l tau) (take (liveOf rows) (rows .rows))
+unfoldable pub mixOf : Rows → MotorLayout → Float → MotorLayout → Float → Mix
+mixOf rows l tau l' tau' = mixFrom (startOf l tau l' tau') (take (liveOf rows) (rows .rows))
 
 -- the servos that are filled, each factor over its axis's sum of squares (01, module 3)
 unfoldable pub surfacesIn : Mix → Surfaces

@@ -1,10 +1,10 @@
-// The lent rows (01, "Which places take which form"): one walk over a slice fills the motors' torques and the servos' factors.
+// The lent rows (01, "Which places take which form"): one walk over a slice fills both groups' torques and the servos' factors.
 // The array form, `mixers::Rows`, stays.
 ghost use mathlib.Core.Path.{_≡_};
 ghost use Prim.Native.Nat.{_≤_};
 ghost use lib.ListN.{take};
 ghost use Rattle.mixers.specs.Rows.{mostRows};
-ghost use Rattle.motors.specs.Motor.{groupOf};
+ghost use Rattle.motors.specs.Motor.{groupOf, liftGroupOf};
 ghost use Rattle.surfaces.specs.Surface.{surfacesOf};
 ghost use Rattle.lent_rows.specs.Mixing.{startOf, putOf, mixFrom, mixOf, surfacesIn};
 use mixers::MOST_ROWS;
@@ -19,28 +19,44 @@ use vector::Vec3;
 // What the rows read so far fill.
 pub struct Mix {
     pub motors: MotorGroup,
+    pub lift: MotorGroup,
     pub factors: Factors,
 }
 
 impl Mix {
-    // No row yet: no motor and no servo is driven.
-    pub fn start(layout: MotorLayout, time_constant_s: f32) -> Self
-        ensures { λ r. ⌜ r ≡ startOf layout «time_constant_s» ⌝ }
+    // No row yet: no motor, no lift rotor and no servo is driven.
+    pub fn start(
+        layout: MotorLayout,
+        time_constant_s: f32,
+        lift_layout: MotorLayout,
+        lift_time_constant_s: f32,
+    ) -> Self
+        ensures { λ r. ⌜ r ≡ startOf layout «time_constant_s» «lift_layout» «lift_time_constant_s» ⌝ }
     {
         let motors = MotorGroup::undriven(layout, time_constant_s);
+        let lift = MotorGroup::undriven(lift_layout, lift_time_constant_s);
         let factors = Factors {
             at: [Vec3::zeros(); 8],
         };
-        Mix { motors, factors }
+        Mix {
+            motors,
+            lift,
+            factors,
+        }
     }
 
-    // One row: a motor's torque or a servo's factors, in place of what an earlier row set.
+    // One row: a motor's or a lift rotor's torque or a servo's factors, in place of what an earlier row of its kind set.
     pub fn put(self, row: MixRow) -> Self
         ensures { λ r. ⌜ r ≡ putOf self row ⌝ }
     {
         let motors = self.motors.put(row);
+        let lift = self.lift.put_lift(row);
         let factors = self.factors.put(row);
-        Mix { motors, factors }
+        Mix {
+            motors,
+            lift,
+            factors,
+        }
     }
 
     // The servos of the rows read, with their weights. Servos start centered.
@@ -78,12 +94,20 @@ pub fn mixed_lent(list: [MixRow; MOST_ROWS], count: usize, start: Mix) -> Mix
 }
 
 // The rows of the array form, lent and walked once: they fill what the array form fills.
-pub fn mixed(rows: Rows, layout: MotorLayout, time_constant_s: f32) -> Mix
-    ensures { λ r. ⌜ r ≡ mixOf rows layout «time_constant_s» ⌝ }
+pub fn mixed(
+    rows: Rows,
+    layout: MotorLayout,
+    time_constant_s: f32,
+    lift_layout: MotorLayout,
+    lift_time_constant_s: f32,
+) -> Mix
+    ensures { λ r. ⌜ r ≡ mixOf rows layout «time_constant_s» «lift_layout» «lift_time_constant_s» ⌝ }
     ensures { λ r. ⌜ r .motors ≡ groupOf rows layout «time_constant_s» ⌝ }
+    ensures { λ r. ⌜ r .lift ≡ liftGroupOf rows «lift_layout» «lift_time_constant_s» ⌝ }
     ensures { λ r. ⌜ surfacesIn r ≡ surfacesOf rows ⌝ }
 {
     let list = rows.rows;
     let count = rows.live();
-    mixed_lent(list, count, Mix::start(layout, time_constant_s))
+    let start = Mix::start(layout, time_constant_s, lift_layout, lift_time_constant_s);
+    mixed_lent(list, count, start)
 }

@@ -42,7 +42,7 @@ unfoldable pub sameFlight : Flight → Flight → Bool
 sameFlight f g =
     both (sameBody (f .body) (g .body))
     (both (both (allPass (sameSlot (f .motors) (g .motors)) 8) (allPass (sameSlot (f .servos) (g .servos)) 8))
-    (allPass (sameSlot (f .«thrust_scale») (g .«thrust_scale»)) 8))
+    (both (allPass (sameSlot (f .«thrust_scale») (g .«thrust_scale»)) 8) (allPass (sameSlot (f .«lift_motors») (g .«lift_motors»)) 8)))
 
 -- the same answer, alpha and thrust, and beta negated
 unfoldable pub mirroredReport : Report → Report → Bool

@@ -71,12 +71,15 @@ fn same_flight(f: Flight, g: Flight) -> bool
     let positions_too = g.servos;
     let strengths = f.thrust_scale;
     let strengths_too = g.thrust_scale;
+    let lifting = f.lift_motors;
+    let lifting_too = g.lift_motors;
     let motors = same_slots(running, running_too);
     let servos = same_slots(positions, positions_too);
     let scales = same_slots(strengths, strengths_too);
+    let lift = same_slots(lifting, lifting_too);
     ordered::both(
         same_body(f.body, g.body),
-        ordered::both(ordered::both(motors, servos), scales),
+        ordered::both(ordered::both(motors, servos), ordered::both(scales, lift)),
     )
 }
 

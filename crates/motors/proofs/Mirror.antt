@@ -3,7 +3,7 @@ use Prim.Native.Nat.{ℕ}
 use lib.Ieee.{Float}
 use mathlib.Core.Bool.{false, true}
 use mathlib.Core.List.{List}
-use mathlib.Core.Path.{_≡_, ap, refl}
+use mathlib.Core.Path.{_∙_, _≡_, ap, refl}
 use Rattle.fixed_wing.proofs.Mirror.{falloff-is}
 use Rattle.fixed_wing.specs.declared.ThrustFalloff.{ThrustFalloff}
 use Rattle.float.proofs.Mirror.{r-is}
@@ -14,9 +14,11 @@ use Rattle.mixers.proofs.Sums.{sum-same, vec-sum-mirror}
 use Rattle.mixers.specs.Slots.{at}
 use Rattle.vector.proofs.Mirror.{scale-mirror}
 use Rattle.vector.specs.Reflection.{VecRel}
-use Rattle.motors.specs.Motor.{lagFactor, slotThrust, slotTorque, spinAt, spinOf, thrustFraction, thrustOf, wrenchWith}
+use Rattle.motors.specs.Motor.{lagFactor, leftBy, slotThrust, slotTorque, spinAt, spinOf, thrustFraction, thrustOf, wrenchBy, wrenchOf, wrenchWith}
 use Rattle.motors.specs.Reflection.{GroupRel, reflectGroup}
 use Rattle.motors.specs.declared.MotorGroup.{MotorGroup}
+use Rattle.motors.specs.declared.MotorLayout.{MotorLayout}
+use Rattle.motors.specs.declared.MotorWrench.{MotorWrench}
 use Rattle.motors.specs.declared.Motors.{Motors}
 
 -- a group and its reflection, whose motors run alike and are as strong
@@ -39,18 +41,29 @@ pub spin-mirror : {m m' : Motors} (commands : List Float) (factor : Float)
 unfolding spinOf spinAt
 spin-mirror commands factor h = record { group = h .group; running = rw (h .group .used, h .running); scale = h .scale }
 
-slot-thrust-is : {m m' : Motors} {u u' : Float} (f : ThrustFalloff) → MotorsRel m m' → Rel false u u' → (k : ℕ) → slotThrust m' f u' k ≡ slotThrust m f u k
+-- thrust and torque, by falloffs that leave the same of each share
+slot-thrust-is : {m m' : Motors} {left left' : Float → Float} → MotorsRel m m' → ((share : Float) → left' share ≡ left share) → (k : ℕ) → slotThrust m' left' k ≡ slotThrust m left k
 unfolding slotThrust thrustOf
-slot-thrust-is {m} f h r k = rw (h .group .layout, h .running, h .scale, falloff-is f (m .group .layout .«max_thrust_n») (thrustFraction (at (m .running) k) (m .group .layout .«thrust_exponent»)) r)
+slot-thrust-is {m} h l k = rw (h .group .layout, h .running, h .scale, l (thrustFraction (at (m .running) k) (m .group .layout .«thrust_exponent»)))
 
-slot-torque-mirror : {m m' : Motors} {u u' : Float} (f : ThrustFalloff) → MotorsRel m m' → Rel false u u' → (k : ℕ) → VecRel true (slotTorque m f u k) (slotTorque m' f u' k)
+slot-torque-mirror : {m m' : Motors} {left left' : Float → Float} → MotorsRel m m' → ((share : Float) → left' share ≡ left share) → (k : ℕ) → VecRel true (slotTorque m left k) (slotTorque m' left' k)
 unfolding slotTorque
-slot-torque-mirror f h r k = scale-mirror (h .group .torque k) (r-is (slot-thrust-is f h r k))
+slot-torque-mirror h l k = scale-mirror (h .group .torque k) (r-is (slot-thrust-is h l k))
 
-pub thrust-is : {m m' : Motors} {u u' : Float} (f : ThrustFalloff) → MotorsRel m m' → Rel false u u' → wrenchWith m' f u' .«thrust_n» ≡ wrenchWith m f u .«thrust_n»
-unfolding wrenchWith
-thrust-is f h r = sum-same 8 (slot-thrust-is f h r)
+-- what two groups pull that are each other's reflections
+pub record PullRel (p p' : MotorWrench) : Type 0 where
+  pub thrust : p' .«thrust_n» ≡ p .«thrust_n»
+  pub torque : VecRel true (p .«torque_nm») (p' .«torque_nm»)
 
-pub torque-mirror : {m m' : Motors} {u u' : Float} (f : ThrustFalloff) → MotorsRel m m' → Rel false u u' → VecRel true (wrenchWith m f u .«torque_nm») (wrenchWith m' f u' .«torque_nm»)
+by-mirror : {m m' : Motors} {left left' : Float → Float} → MotorsRel m m' → ((share : Float) → left' share ≡ left share) → PullRel (wrenchBy m left) (wrenchBy m' left')
+unfolding wrenchBy
+by-mirror h l = record { thrust = sum-same 8 (slot-thrust-is h l); torque = vec-sum-mirror true 8 (slot-torque-mirror h l) }
+
+pub pull-mirror : {m m' : Motors} {u u' : Float} (f : ThrustFalloff) → MotorsRel m m' → Rel false u u' → PullRel (wrenchWith m f u) (wrenchWith m' f u')
 unfolding wrenchWith
-torque-mirror f h r = vec-sum-mirror true 8 (slot-torque-mirror f h r)
+pull-mirror {m} {u'} f h r = by-mirror h (λ share. ap (λ (l : MotorLayout). leftBy f l u' share) (h .group .layout) ∙ falloff-is f (m .group .layout .«max_thrust_n») share r)
+
+-- where nothing falls off
+pub full-pull-mirror : {m m' : Motors} → MotorsRel m m' → PullRel (wrenchOf m) (wrenchOf m')
+unfolding wrenchOf
+full-pull-mirror h = by-mirror h (λ share. refl)

@@ -4,7 +4,6 @@ use lib.Dec.{T}
 use lib.Ieee.{Float, binary32, eq, fits, le, mul, round}
 use mathlib.Core.Bool.{true}
 use mathlib.Core.Path.{_≡_}
-use Rattle.fixed_wing.specs.Falloff.{falloffShare}
 use Rattle.fixed_wing.specs.declared.ThrustFalloff.{ThrustFalloff}
 use Rattle.float.proofs.Interval.{mul-in}
 use Rattle.float.proofs.Tests.{either}
@@ -13,7 +12,7 @@ use Rattle.float.specs.Notation.{_⊗_, nought, one, two}
 use Rattle.libm.proofs.PowRange.{pow-in, three}
 use Rattle.mixers.specs.Slots.{at}
 use Rattle.motors.proofs.Pulls.{pull-by, pullBy}
-use Rattle.motors.specs.Motor.{slotThrust, thrustFraction, thrustOf, wrenchWith}
+use Rattle.motors.specs.Motor.{leftBy, slotThrust, thrustFraction, thrustOf, wrenchWith}
 use Rattle.motors.specs.declared.MotorLayout.{MotorLayout}
 use Rattle.motors.specs.declared.MotorWrench.{MotorWrench}
 use Rattle.motors.specs.declared.Motors.{Motors}
@@ -27,18 +26,20 @@ share-in running exponent f w e =
     (pow-in running exponent f w e)
 
 -- ---- the exponent 2
-abbrev pub squareThrust : MotorLayout → ThrustFalloff → Float → Float → Float → Float
-squareThrust l falloff u scale running =
+abbrev pub squareThrust : MotorLayout → (Float → Float) → Float → Float → Float
+squareThrust l falloff scale running =
     let share = running ⊗ running in
-    scale ⊗ l .«max_thrust_n» ⊗ share ⊗ falloffShare falloff (l .«max_thrust_n») share u
+    scale ⊗ l .«max_thrust_n» ⊗ share ⊗ falloff share
 
-pub as-square : (l : MotorLayout) (falloff : ThrustFalloff) (u scale running : Float) → eq (l .«thrust_exponent») two ≡ true → thrustOf l falloff u scale running ≡ squareThrust l falloff u scale running
+pub as-square : (l : MotorLayout) (falloff : Float → Float) (scale running : Float) → eq (l .«thrust_exponent») two ≡ true → thrustOf l falloff scale running ≡ squareThrust l falloff scale running
 unfolding thrustOf thrustFraction
-as-square l falloff u scale running h = rw h
+as-square l falloff scale running h = rw h
 
 abbrev pub squarePull : Motors → ThrustFalloff → Float → MotorWrench
-squarePull m falloff u = pullBy m (λ (k : ℕ). squareThrust (m .group .layout) falloff u (at (m .«thrust_scale») k) (at (m .running) k))
+squarePull m falloff u = pullBy m (λ (k : ℕ). squareThrust (m .group .layout) (leftBy falloff (m .group .layout) u) (at (m .«thrust_scale») k) (at (m .running) k))
 
 pub pull-as-square : (m : Motors) (falloff : ThrustFalloff) (u : Float) → eq (m .group .layout .«thrust_exponent») two ≡ true → wrenchWith m falloff u ≡ squarePull m falloff u
-unfolding slotThrust
-pull-as-square m falloff u h = pull-by m falloff u (λ k. as-square (m .group .layout) falloff u (at (m .«thrust_scale») k) (at (m .running) k) h)
+unfolding wrenchWith slotThrust
+pull-as-square m falloff u h =
+    let left = leftBy falloff (m .group .layout) u in
+    pull-by m left (λ k. as-square (m .group .layout) left (at (m .«thrust_scale») k) (at (m .running) k) h)

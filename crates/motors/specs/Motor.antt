@@ -1,4 +1,4 @@
--- The motors (01, module 2). Definitions only.
+-- The motors (01, module 2), and the lift rotors, which are a second group of such (02, 5). Definitions only.
 use Prim.Native.Nat.{ℕ}
 use denote.Index.{row}
 use lib.Dec.{ltb}
@@ -16,13 +16,22 @@ use Rattle.mixers.specs.Slots.{at, flagAt, slots, sumTo, vecAt, vecSumTo}
 use Rattle.mixers.specs.declared.MixRow.{MixRow}
 use Rattle.mixers.specs.declared.Rows.{Rows}
 use Rattle.mixers.specs.declared.Slot.{Slot}
-use Rattle.mixers.specs.declared.Slot.the-variants.{Motor, Servo}
+use Rattle.mixers.specs.declared.Slot.the-variants.{Lift, Motor, Servo}
 use Rattle.vector.specs.Vector.{scaleOf, vec, zeroVec}
 use Rattle.vector.specs.declared.Vec3.{Vec3}
 use Rattle.motors.specs.declared.MotorGroup.{MotorGroup}
 use Rattle.motors.specs.declared.MotorLayout.{MotorLayout}
 use Rattle.motors.specs.declared.MotorWrench.{MotorWrench}
 use Rattle.motors.specs.declared.Motors.{Motors}
+
+-- of the zero airframe
+unfoldable pub zeroLayout : MotorLayout
+zeroLayout = record {
+  «moment_arm_m» = nought;
+  «yaw_torque_per_thrust_m» = nought;
+  «max_thrust_n» = nought;
+  «thrust_exponent» = nought;
+}
 
 -- ---- a group from the mixer's rows
 
@@ -49,17 +58,30 @@ putMotor g k t = cond (ltb k 8)
     })
     g
 
--- a servo row is skipped
+-- the motors skip a servo's row and a lift rotor's
 unfoldable pub putAt : MotorGroup → Slot → Vec3 → MotorGroup
 putAt g (Motor k) t = putMotor g k t
 putAt g (Servo k) t = g
+putAt g (Lift k) t = g
+
+-- the lift rotors skip all rows but their own (02, 5)
+unfoldable pub putLiftAt : MotorGroup → Slot → Vec3 → MotorGroup
+putLiftAt g (Motor k) t = g
+putLiftAt g (Servo k) t = g
+putLiftAt g (Lift k) t = putMotor g k t
 
 unfoldable pub putOf : MotorGroup → MixRow → MotorGroup
 putOf g row = putAt g (row .slot) (torqueOf (g .layout) row)
 
--- of several rows for one slot the last counts
+unfoldable pub putLiftOf : MotorGroup → MixRow → MotorGroup
+putLiftOf g row = putLiftAt g (row .slot) (torqueOf (g .layout) row)
+
+-- of several rows for one slot the last counts, within its own group only
 unfoldable pub groupOf : Rows → MotorLayout → Float → MotorGroup
 groupOf rows l tau = putTo putOf (undriven l tau) (rows .rows) (liveOf rows)
+
+unfoldable pub liftGroupOf : Rows → MotorLayout → Float → MotorGroup
+liftGroupOf rows l tau = putTo putLiftOf (undriven l tau) (rows .rows) (liveOf rows)
 
 -- ---- f of module 2
 unfoldable pub lagFactor : MotorGroup → Float → Float
@@ -84,21 +106,35 @@ unfoldable pub thrustFraction : Float → Float → Float
 thrustFraction running exponent = cond (eq exponent two) (running ⊗ running) (powOf running exponent)
 
 -- thrust_scale · max · share · falloff, from the left; the falloff is of the share before it is scaled (02, 2)
-unfoldable pub thrustOf : MotorLayout → ThrustFalloff → Float → Float → Float → Float
-thrustOf l falloff u scale running =
+unfoldable pub thrustOf : MotorLayout → (Float → Float) → Float → Float → Float
+thrustOf l falloff scale running =
     let share = thrustFraction running (l .«thrust_exponent») in
-    scale ⊗ l .«max_thrust_n» ⊗ share ⊗ falloffShare falloff (l .«max_thrust_n») share u
+    scale ⊗ l .«max_thrust_n» ⊗ share ⊗ falloff share
 
 -- the thrust at a slot, used or not
-unfoldable pub slotThrust : Motors → ThrustFalloff → Float → ℕ → Float
-slotThrust m falloff u k = thrustOf (m .group .layout) falloff u (at (m .«thrust_scale») k) (at (m .running) k)
+unfoldable pub slotThrust : Motors → (Float → Float) → ℕ → Float
+slotThrust m falloff k = thrustOf (m .group .layout) falloff (at (m .«thrust_scale») k) (at (m .running) k)
 
-unfoldable pub slotTorque : Motors → ThrustFalloff → Float → ℕ → Vec3
-slotTorque m falloff u k = scaleOf (vecAt (m .group .«torque_per_thrust_m») k) (slotThrust m falloff u k)
+unfoldable pub slotTorque : Motors → (Float → Float) → ℕ → Vec3
+slotTorque m falloff k = scaleOf (vecAt (m .group .«torque_per_thrust_m») k) (slotThrust m falloff k)
 
 -- the sums over all 8 slots
-unfoldable pub wrenchWith : Motors → ThrustFalloff → Float → MotorWrench
-wrenchWith m falloff u = record {
-  «thrust_n» = sumTo (slotThrust m falloff u) 8;
-  «torque_nm» = vecSumTo (slotTorque m falloff u) 8;
+unfoldable pub wrenchBy : Motors → (Float → Float) → MotorWrench
+wrenchBy m falloff = record {
+  «thrust_n» = sumTo (slotThrust m falloff) 8;
+  «torque_nm» = vecSumTo (slotTorque m falloff) 8;
 }
+
+-- what the forward airspeed u leaves of a share (01, module 4)
+abbrev pub leftBy : ThrustFalloff → MotorLayout → Float → Float → Float
+leftBy falloff l u share = falloffShare falloff (l .«max_thrust_n») share u
+
+unfoldable pub wrenchWith : Motors → ThrustFalloff → Float → MotorWrench
+wrenchWith m falloff u = wrenchBy m (leftBy falloff (m .group .layout) u)
+
+-- falloff shares of 1 (02, 5)
+abbrev pub whole : Float → Float
+whole share = one
+
+unfoldable pub wrenchOf : Motors → MotorWrench
+wrenchOf m = wrenchBy m whole

@@ -1,4 +1,5 @@
-// 01, module 2: motors that follow their commands, their thrust and their torque.
+// 01, module 2: motors that follow their commands, their thrust and their torque. There are two groups of them: those along body x,
+// and lift rotors (02, 5).
 ghost use mathlib.Core.Path.{_≡_};
 ghost use Rattle.libm.specs.Powers.{powersOfTwo};
 ghost use Rattle.motors.specs.Motor as Motor;
@@ -10,7 +11,7 @@ use mixers::Rows;
 use mixers::Slot;
 use vector::Vec3;
 
-// What all motors of a group have in common but their lag: places 40, 41, 35 and 36.
+// What all motors of a group have in common but their lag: places 40, 41, 35 and 36, or 54, 55, 52 and 53.
 pub struct MotorLayout {
     // The arm of a roll or pitch factor of 1.
     pub moment_arm_m: f32,
@@ -40,7 +41,7 @@ pub struct Motors {
     pub thrust_scale: [f32; 8],
 }
 
-// Sums over the 8 slots; thrust is along body +x.
+// Sums over the 8 slots; thrust is along the group's axis.
 pub struct MotorWrench {
     pub thrust_n: f32,
     pub torque_nm: Vec3,
@@ -85,6 +86,20 @@ impl MotorGroup {
         match slot {
             Slot::Motor(index) => self.put_motor(index as usize, layout.torque(row)),
             Slot::Servo(_) => self,
+            Slot::Lift(_) => self,
+        }
+    }
+
+    // The same into a group of lift rotors.
+    pub fn put_lift(self, row: MixRow) -> Self
+        ensures { λ r. ⌜ r ≡ Motor.putLiftOf self row ⌝ }
+    {
+        let slot = row.slot;
+        let layout = self.layout;
+        match slot {
+            Slot::Motor(_) => self,
+            Slot::Servo(_) => self,
+            Slot::Lift(index) => self.put_motor(index as usize, layout.torque(row)),
         }
     }
 
@@ -174,9 +189,46 @@ impl Motors {
             torque_nm,
         }
     }
+
+    // The same where nothing falls off. A loop of its own, so that neither group is copied for the other's (docs/DECISIONS.md, 85).
+    pub fn wrench(self, powers: &[f32; POWER_COUNT]) -> MotorWrench
+        requires { ⌜ now powers ≡ powersOfTwo ⌝ }
+        ensures { λ r. ⌜ r ≡ Motor.wrenchOf self ⌝ }
+    {
+        let group = self.group;
+        let running = self.running;
+        let thrust_scale = self.thrust_scale;
+        let torques = group.torque_per_thrust_m;
+        let mut thrust_n = 0.0;
+        let mut torque_nm = Vec3::zeros();
+        let mut i = 0usize;
+        while i < 8 {
+            let layout = group.layout;
+            let one_n = layout.still_thrust_n(thrust_scale[i], running[i], powers);
+            thrust_n = thrust_n + one_n;
+            torque_nm = torque_nm.add(torques[i].scale(one_n));
+            i += 1;
+        }
+        MotorWrench {
+            thrust_n,
+            torque_nm,
+        }
+    }
 }
 
 impl MotorLayout {
+    // Of the zero airframe.
+    pub fn zero() -> Self
+        ensures { λ r. ⌜ r ≡ Motor.zeroLayout ⌝ }
+    {
+        MotorLayout {
+            moment_arm_m: 0.0,
+            yaw_torque_per_thrust_m: 0.0,
+            max_thrust_n: 0.0,
+            thrust_exponent: 0.0,
+        }
+    }
+
     // A motor row's torque for each N.
     fn torque(self, row: MixRow) -> Vec3
         ensures { λ r. ⌜ r ≡ Motor.torqueOf self row ⌝ }
@@ -198,16 +250,26 @@ impl MotorLayout {
         powers: &[f32; POWER_COUNT],
     ) -> f32
         requires { ⌜ now powers ≡ powersOfTwo ⌝ }
-        ensures { λ r. ⌜ r ≡ Motor.thrustOf self falloff «airspeed_mps» scale running ⌝ }
+        ensures { λ r. ⌜ r ≡ Motor.thrustOf self (Motor.leftBy falloff self «airspeed_mps») scale running ⌝ }
     {
         let max_thrust_n = self.max_thrust_n;
         let share = thrust_fraction(running, self.thrust_exponent, powers);
         scale * max_thrust_n * share * falloff.falloff_share(max_thrust_n, share, airspeed_mps)
     }
+
+    // The same with a falloff share of 1.
+    fn still_thrust_n(self, scale: f32, running: f32, powers: &[f32; POWER_COUNT]) -> f32
+        requires { ⌜ now powers ≡ powersOfTwo ⌝ }
+        ensures { λ r. ⌜ r ≡ Motor.thrustOf self Motor.whole scale running ⌝ }
+    {
+        let max_thrust_n = self.max_thrust_n;
+        let share = thrust_fraction(running, self.thrust_exponent, powers);
+        scale * max_thrust_n * share * 1.0
+    }
 }
 
 // One motor's new running value; an unused one keeps its own.
-fn spun(used: bool, running: f32, command: f32, factor: f32) -> f32
+pub fn spun(used: bool, running: f32, command: f32, factor: f32) -> f32
     ensures { λ r. ⌜ r ≡ Motor.spun used running command factor ⌝ }
 {
     if used {

@@ -1,4 +1,4 @@
-// The lists of the motors and the surfaces.
+// The lists of the motors, the lift rotors and the surfaces.
 ghost use mathlib.Core.Path.{_≡_};
 ghost use Prim.Native.Nat.{_+_, _≤_};
 ghost use Rattle.mixers.specs.Rows.{mostRows};
@@ -11,6 +11,7 @@ use mixers::Slot;
 use motors::MotorGroup;
 use motors::MotorLayout;
 use motors::Motors;
+use quadplane_model::LiftRotors;
 use surfaces::Surfaces;
 use vector::Vec3;
 
@@ -43,17 +44,19 @@ fn put_vectors(out: &mut [u32; 64], i: usize, vs: [Vec3; 8])
     numbers::put_vec(out, i + 21, vs[7]);
 }
 
-// 8 flags, each a word that is 0 or 1.
-fn flags(w: &[u32; 192]) -> [bool; 8] {
+// 8 flags from word i on, each a word that is 0 or 1.
+fn flags(w: &[u32; 192], i: usize) -> [bool; 8]
+    requires { ⌜ i + 8 ≤ 192 ⌝ }
+{
     [
-        w[6] != 0,
-        w[7] != 0,
-        w[8] != 0,
-        w[9] != 0,
-        w[10] != 0,
-        w[11] != 0,
-        w[12] != 0,
-        w[13] != 0,
+        w[i] != 0,
+        w[i + 1] != 0,
+        w[i + 2] != 0,
+        w[i + 3] != 0,
+        w[i + 4] != 0,
+        w[i + 5] != 0,
+        w[i + 6] != 0,
+        w[i + 7] != 0,
     ]
 }
 
@@ -64,7 +67,7 @@ pub fn motors(w: &[u32; 192], inputs: usize, out: &mut [u32; 64]) -> usize
         return 0;
     }
     let falloff = modules::falloff(w[0], numbers::number(w, 1));
-    let used = flags(w);
+    let used = flags(w, 6);
     let torque_per_thrust_m = vectors(w, 14);
     let running = numbers::eight(w, 38);
     let thrust_scale = numbers::eight(w, 46);
@@ -96,6 +99,43 @@ pub fn motors(w: &[u32; 192], inputs: usize, out: &mut [u32; 64]) -> usize
     12
 }
 
+// The rotors' values after a step of their lag, and their force and torque.
+pub fn lift(w: &[u32; 192], inputs: usize, out: &mut [u32; 64]) -> usize
+    ensures { λ n. ⌜ n ≤ 64 ⌝ }
+{
+    if inputs != 55 {
+        return 0;
+    }
+    let used = flags(w, 7);
+    let torque_per_thrust_m = vectors(w, 15);
+    let running = numbers::eight(w, 39);
+    let commands = numbers::eight(w, 47);
+    let layout = MotorLayout {
+        moment_arm_m: 0.0,
+        yaw_torque_per_thrust_m: 0.0,
+        max_thrust_n: numbers::number(w, 0),
+        thrust_exponent: numbers::number(w, 1),
+    };
+    let motors = MotorGroup {
+        layout,
+        time_constant_s: 1.0,
+        used,
+        torque_per_thrust_m,
+    };
+    let rotors = LiftRotors {
+        motors,
+        drag_per_thrust_n_per_mps: numbers::number(w, 2),
+    };
+    let spun = rotors.at(running).spin(commands, numbers::number(w, 3));
+    let after = spun.running;
+    let powers = libm::powers_of_two();
+    let wrench = rotors.wrench(after, numbers::vec(w, 4), &powers);
+    numbers::put_eight(out, 0, after);
+    numbers::put_vec(out, 8, wrench.force_n);
+    numbers::put_vec(out, 11, wrench.torque_nm);
+    14
+}
+
 // The row of the five words from i on: kind, slot, roll, pitch, yaw.
 fn row(w: &[u32; 192], i: usize) -> MixRow
     requires { ⌜ i + 5 ≤ 192 ⌝ }
@@ -119,6 +159,9 @@ fn slot_of(kind: u32, index: u32) -> Slot {
     if kind == 0 {
         return Slot::Motor((index % 8) as u8);
     }
+    if kind == 2 {
+        return Slot::Lift((index % 8) as u8);
+    }
     Slot::Servo((index % 8) as u8)
 }
 
@@ -141,39 +184,68 @@ fn rows(w: &[u32; 192], at: usize, count: usize) -> Rows
     Rows { rows: list, count }
 }
 
+// Motors of 1 N by the square, with the arm and the yaw torque in words i and i + 1.
+fn layout(w: &[u32; 192], i: usize) -> MotorLayout
+    requires { ⌜ i + 2 ≤ 192 ⌝ }
+{
+    MotorLayout {
+        moment_arm_m: numbers::number(w, i),
+        yaw_torque_per_thrust_m: numbers::number(w, i + 1),
+        max_thrust_n: 1.0,
+        thrust_exponent: 2.0,
+    }
+}
+
+// The lift rotors of the rows.
+fn lift_group(rows: Rows, layout: MotorLayout) -> MotorGroup {
+    let list = rows.rows;
+    let count = rows.live();
+    let mut group = MotorGroup::undriven(layout, 1.0);
+    let mut i = 0usize;
+    while i < count {
+        group = group.put_lift(list[i]);
+        i += 1;
+    }
+    group
+}
+
 pub fn motor_rows(w: &[u32; 192], inputs: usize, out: &mut [u32; 64]) -> usize
     ensures { λ n. ⌜ n ≤ 64 ⌝ }
 {
-    let count = wide(w[2]);
+    let count = wide(w[4]);
     if count > MOST_ROWS {
         return 0;
     }
-    if inputs != 3 + 5 * count {
+    if inputs != 5 + 5 * count {
         return 0;
     }
-    let layout = MotorLayout {
-        moment_arm_m: numbers::number(w, 0),
-        yaw_torque_per_thrust_m: numbers::number(w, 1),
-        max_thrust_n: 1.0,
-        thrust_exponent: 2.0,
-    };
-    let group = MotorGroup::new(rows(w, 3, count), layout, 1.0);
-    let used = group.used;
-    let torques = group.torque_per_thrust_m;
-    put_flags(out, used);
-    put_vectors(out, 8, torques);
-    32
+    let list = rows(w, 5, count);
+    put_group(out, 0, MotorGroup::new(list, layout(w, 0), 1.0));
+    put_group(out, 32, lift_group(list, layout(w, 2)));
+    64
 }
 
-fn put_flags(out: &mut [u32; 64], used: [bool; 8]) {
-    out[0] = flag(used[0]);
-    out[1] = flag(used[1]);
-    out[2] = flag(used[2]);
-    out[3] = flag(used[3]);
-    out[4] = flag(used[4]);
-    out[5] = flag(used[5]);
-    out[6] = flag(used[6]);
-    out[7] = flag(used[7]);
+// A group's marks and torques from word i on.
+fn put_group(out: &mut [u32; 64], i: usize, group: MotorGroup)
+    requires { ⌜ i + 32 ≤ 64 ⌝ }
+{
+    let used = group.used;
+    let torques = group.torque_per_thrust_m;
+    put_flags(out, i, used);
+    put_vectors(out, i + 8, torques);
+}
+
+fn put_flags(out: &mut [u32; 64], i: usize, used: [bool; 8])
+    requires { ⌜ i + 8 ≤ 64 ⌝ }
+{
+    out[i] = flag(used[0]);
+    out[i + 1] = flag(used[1]);
+    out[i + 2] = flag(used[2]);
+    out[i + 3] = flag(used[3]);
+    out[i + 4] = flag(used[4]);
+    out[i + 5] = flag(used[5]);
+    out[i + 6] = flag(used[6]);
+    out[i + 7] = flag(used[7]);
 }
 
 fn flag(used: bool) -> u32 {

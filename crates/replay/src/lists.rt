@@ -22,6 +22,7 @@ pub enum List {
     BodyStep,
     Wrench,
     Motors,
+    Lift,
     MotorRows,
     Surfaces,
 }
@@ -48,6 +49,7 @@ pub fn answers(list: List, w: &[u32; 192], inputs: usize, out: &mut [u32; 64]) -
         List::BodyStep => modules::body_step(w, inputs, out),
         List::Wrench => modules::wrench(w, inputs, out),
         List::Motors => actuators::motors(w, inputs, out),
+        List::Lift => actuators::lift(w, inputs, out),
         List::MotorRows => actuators::motor_rows(w, inputs, out),
         List::Surfaces => actuators::surfaces(w, inputs, out),
     }

@@ -127,6 +127,7 @@ fn main() {
     run(b"body_step", b"body_step.txt", List::BodyStep, &mut buf);
     run(b"wrench", b"wrench.txt", List::Wrench, &mut buf);
     run(b"motors", b"motors.txt", List::Motors, &mut buf);
+    run(b"lift", b"lift.txt", List::Lift, &mut buf);
     run(b"motor_rows", b"motor_rows.txt", List::MotorRows, &mut buf);
     run(b"surfaces", b"surfaces.txt", List::Surfaces, &mut buf);
     run_flights(&mut buf);

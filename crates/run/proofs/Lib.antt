@@ -3,4 +3,4 @@ pub mod Turns
 pub mod Calls
 pub mod Mirror
 pub mod Bytes
-pub mod Scales
+pub mod Kept

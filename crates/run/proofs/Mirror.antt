@@ -81,10 +81,22 @@ ran-mirror a f s ts = go (isWhole s)
 
 -- ---- the ranges
 in-range : (a : Airframe) (start f : Flight) → Running f → Still a start f → InRange a start f
-in-range a start f r s = record { motors = Group.in-range (r .motors) (s .motors); surface = r .servo; scale = r .scale; unaltered = s .scale }
+in-range a start f r s = record {
+  motors = Group.in-range (r .motors) (s .motors);
+  surface = r .servo;
+  scale = r .scale;
+  unaltered = s .scale;
+  lift = Group.in-range (r .lift) (s .lift);
+  unlifted = s .unlifted;
+}
 
 still-more : {a : Airframe} {start f g : Flight} → Still a start f → Still a f g → Still a start g
-still-more s t = record { motors = still-after (s .motors) (t .motors); scale = t .scale ∙ s .scale }
+still-more s t = record {
+  motors = still-after (s .motors) (t .motors);
+  scale = t .scale ∙ s .scale;
+  lift = still-after (s .lift) (t .lift);
+  unlifted = λ p. t .unlifted p ∙ s .unlifted p;
+}
 
 -- what the states of a run from `start` keep
 abbrev Kept : Airframe → Flight → Flight → Type 0
@@ -101,10 +113,10 @@ angles-from a f ts = all-calls (λ (g : Flight). Unit {0}) (λ (k : Ticked). Ang
 pub ranges : (a : Airframe) (s : Flight) (ts : List Tick) → outsideOf s ≡ 0 → Held s → Ranges a s ts
 ranges a s ts o g =
     let r = accepted-running s o in
-    let still : Still a s s = record { motors = still-same _ _; scale = refl } in
+    let still : Still a s s = record { motors = still-same _ _; scale = refl; lift = still-same _ _; unlifted = λ p. refl } in
     record { at-start = in-range a s s r still; after-each = ranges-from a s s ts (g, r, still); angles = angles-from a s ts }
 
--- ---- demand 3. `Held s` is what the type of a state tells: its motors' running values are 32-bit floats
+-- ---- demand 3. `Held s` is what the type of a state tells: the running values of its motors and lift rotors are 32-bit floats
 pub mirrored : (a : Airframe) (s : Flight) (ts : List Tick) → outsideOf s ≡ 0 → Held s → Mirrored a s ts
 mirrored a s ts o g =
     let A = reflect-airframe a in
@@ -123,4 +135,4 @@ mirrored a s ts o g =
     }
   where
     held-reflected : (s : Flight) → Held s → Held (reflectFlight s)
-    held-reflected s g = unfold reflectFlight in record { motors = g .motors }
+    held-reflected s g = unfold reflectFlight in record { motors = g .motors; lift = g .lift }

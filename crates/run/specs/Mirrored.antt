@@ -1,10 +1,11 @@
 -- Demand 3, the whole claim, for a surveyor to read alone.
 --
 -- A is any accepted airframe, S any accepted state, T any list of ticks, whatever their bits, also such as are refused. A', S'
--- and T' are A, S and T with left and right exchanged by sign bits: torques and weights in roll and yaw, position, velocity and
--- wind in east, the attitude in i and k, the rates in p and r. One run flies T with A from S, the other T' with A' from S'; a
--- tick starts from what the tick before it handed back. `callsOf` is each call's report and state, `runOf` a run's last state and
--- count, `ranOf` the run that gets all bytes of a trace at once: all by demand 2's definition (Run.antt). Definitions only.
+-- and T' are A, S and T with left and right exchanged by sign bits: the torques of motors and lift rotors and the weights in roll
+-- and yaw, position, velocity and wind in east, the attitude in i and k, the rates in p and r. One run flies T with A from S, the
+-- other T' with A' from S'; a tick starts from what the tick before it handed back. `callsOf` is each call's report and state,
+-- `runOf` a run's last state and count, `ranOf` the run that gets all bytes of a trace at once: all by demand 2's definition
+-- (Run.antt). Definitions only.
 use Prim.Native.Nat.{_<_, ℕ}
 use lib.Dec.{T}
 use lib.Ieee.Scale.{finite}
@@ -46,12 +47,15 @@ pub record Agree (k k' : Ticked) : Type 0 where
   pub state : FlightRel (k .flight) (k' .flight)
 
 -- the running values of a state, in a run that began at `start`: a used motor's in 0..1, an unused one's that of `start`, a
--- surface's in -1..1; and the thrust scales, in 0..1 and those of `start` (02, 2)
+-- surface's in -1..1; the thrust scales, in 0..1 and those of `start` (02, 2); and of the lift rotors the same as of the motors, a
+-- rotor being used or not within its own group, and without lift numbers all as at `start` (02, 5)
 pub record InRange (a : Airframe) (start f : Flight) : Type 0 where
   pub motors : MotorsInRange (a .motors .used) (start .motors) (f .motors)
   pub surface : (k : ℕ) → k < 8 → Within minusOne one (at (f .servos) k)
   pub scale : (k : ℕ) → k < 8 → Within nought one (at (f .«thrust_scale») k)
   pub unaltered : f .«thrust_scale» ≡ start .«thrust_scale»
+  pub lift : MotorsInRange (a .lift .motors .used) (start .«lift_motors») (f .«lift_motors»)
+  pub unlifted : a .«lift_present» ≡ false → f .«lift_motors» ≡ start .«lift_motors»
 
 -- the angles of a report are numbers, neither a NaN nor infinite (02, 1)
 pub record Angles (r : Report) : Type 0 where

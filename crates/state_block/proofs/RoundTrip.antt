@@ -218,7 +218,8 @@ slots-kept : (s t : List ℕ) (n j : ℕ) → Kept s t n → j + 32 ≤ n → fl
 unfolding floatsFrom slotFrom
 slots-kept s t n j h l = simp (h (j + 0) (omega arith), h (j + 4) (omega arith), h (j + 8) (omega arith), h (j + 12) (omega arith), h (j + 16) (omega arith), h (j + 20) (omega arith), h (j + 24) (omega arith), h (j + 28) (omega arith))
 
--- a state of numbers that 32 bits hold, NaNs and infinities too, with 8 motors, 8 servos and 8 thrust scales: what every `Flight` of the code is
+-- a state of numbers that 32 bits hold, NaNs and infinities too, with 8 motors, 8 servos, 8 thrust scales and 8 lift rotors: what every
+-- `Flight` of the code is
 pub record FlightFits (f : Flight) : Type 0 where
   pub position-fits : VecFits (f .body .«position_ned_m»)
   pub velocity-fits : VecFits (f .body .«velocity_ned_mps»)
@@ -227,8 +228,9 @@ pub record FlightFits (f : Flight) : Type 0 where
   pub motors-fit : SlotsFit (f .motors)
   pub servos-fit : SlotsFit (f .servos)
   pub scales-fit : SlotsFit (f .«thrust_scale»)
+  pub lift-fits : SlotsFit (f .«lift_motors»)
 
-module _ (s : List ℕ) (i : ℕ) (f : Flight) (l : i + 148 ≤ length s) (h : FlightFits f) where
+module _ (s : List ℕ) (i : ℕ) (f : Flight) (l : i + 180 ≤ length s) (h : FlightFits f) where
   abbrev s1 : List ℕ
   s1 = putVec s i (f .body .«position_ned_m»)
 
@@ -250,6 +252,9 @@ module _ (s : List ℕ) (i : ℕ) (f : Flight) (l : i + 148 ≤ length s) (h : F
   abbrev s7 : List ℕ
   s7 = putFloats s6 (i + 116) (f .«thrust_scale») 8
 
+  abbrev s8 : List ℕ
+  s8 = putFloats s7 (i + 148) (f .«lift_motors») 8
+
   l1 : length s1 ≡ length s
   l1 = length-putVec s i (f .body .«position_ned_m»)
 
@@ -268,54 +273,62 @@ module _ (s : List ℕ) (i : ℕ) (f : Flight) (l : i + 148 ≤ length s) (h : F
   l6 : length s6 ≡ length s
   l6 = length-putFloats s5 (i + 84) (f .servos) 8 ∙ l5
 
-  -- what each later part leaves as it was
-  k6 : Kept s6 s7 (i + 116)
-  k6 j m = slots-before s6 (i + 116) (f .«thrust_scale») 8 j m
+  l7 : length s7 ≡ length s
+  l7 = length-putFloats s6 (i + 116) (f .«thrust_scale») 8 ∙ l6
 
-  k5 : Kept s5 s7 (i + 84)
+  -- what each later part leaves as it was
+  k7 : Kept s7 s8 (i + 148)
+  k7 j m = slots-before s7 (i + 148) (f .«lift_motors») 8 j m
+
+  k6 : Kept s6 s8 (i + 116)
+  k6 j m = k7 j (omega arith) ∙ slots-before s6 (i + 116) (f .«thrust_scale») 8 j m
+
+  k5 : Kept s5 s8 (i + 84)
   k5 j m = k6 j (omega arith) ∙ slots-before s5 (i + 84) (f .servos) 8 j m
 
-  k4 : Kept s4 s7 (i + 52)
+  k4 : Kept s4 s8 (i + 52)
   k4 j m = k5 j (omega arith) ∙ slots-before s4 (i + 52) (f .motors) 8 j m
 
-  k3 : Kept s3 s7 (i + 40)
+  k3 : Kept s3 s8 (i + 40)
   k3 j m = k4 j (omega arith) ∙ vec-before s3 (i + 40) (f .body .«angular_velocity_radps») j m
 
-  k2 : Kept s2 s7 (i + 24)
+  k2 : Kept s2 s8 (i + 24)
   k2 j m = k3 j (omega arith) ∙ attitude-before s2 (i + 24) (f .body .attitude) j m
 
-  k1 : Kept s1 s7 (i + 12)
+  k1 : Kept s1 s8 (i + 12)
   k1 j m = k2 j (omega arith) ∙ vec-before s1 (i + 12) (f .body .«velocity_ned_mps») j m
 
   pub length-putFlight : length (putFlight s i f) ≡ length s
   unfolding putFlight putBody
-  length-putFlight = length-putFloats s6 (i + 116) (f .«thrust_scale») 8 ∙ l6
+  length-putFlight = length-putFloats s7 (i + 148) (f .«lift_motors») 8 ∙ l7
 
   -- written, then read
   pub flight-same : flightFrom (putFlight s i f) i ≡ f
   unfolding flightFrom flightWith putFlight putBody
   flight-same =
       simp (
-        vec-kept s1 s7 (i + 12) i k1 (omega arith),
+        vec-kept s1 s8 (i + 12) i k1 (omega arith),
         vec-same s i (f .body .«position_ned_m») (omega arith) (h .position-fits),
-        vec-kept s2 s7 (i + 24) (i + 12) k2 (omega arith),
+        vec-kept s2 s8 (i + 24) (i + 12) k2 (omega arith),
         vec-same s1 (i + 12) (f .body .«velocity_ned_mps») (omega (arith, l1)) (h .velocity-fits),
-        attitude-kept s3 s7 (i + 40) (i + 24) k3 (omega arith),
+        attitude-kept s3 s8 (i + 40) (i + 24) k3 (omega arith),
         attitude-same s2 (i + 24) (f .body .attitude) (omega (arith, l2)) (h .attitude-fits),
-        vec-kept s4 s7 (i + 52) (i + 40) k4 (omega arith),
+        vec-kept s4 s8 (i + 52) (i + 40) k4 (omega arith),
         vec-same s3 (i + 40) (f .body .«angular_velocity_radps») (omega (arith, l3)) (h .rates-fit),
-        slots-kept s5 s7 (i + 84) (i + 52) k5 (omega arith),
+        slots-kept s5 s8 (i + 84) (i + 52) k5 (omega arith),
         slots-same s4 (i + 52) (f .motors) (omega (arith, l4)) (h .motors-fit),
-        slots-kept s6 s7 (i + 116) (i + 84) k6 (omega arith),
+        slots-kept s6 s8 (i + 116) (i + 84) k6 (omega arith),
         slots-same s5 (i + 84) (f .servos) (omega (arith, l5)) (h .servos-fit),
+        slots-kept s7 s8 (i + 148) (i + 116) k7 (omega arith),
         slots-same s6 (i + 116) (f .«thrust_scale») (omega (arith, l6)) (h .scales-fit),
+        slots-same s7 (i + 148) (f .«lift_motors») (omega (arith, l7)) (h .lift-fits),
       )
 
--- a state within the envelope, written into 148 bytes and read again, is accepted and the same
-pub written-then-read : (s : List ℕ) (f : Flight) → length s ≡ 148 → FlightFits f → outsideOf f ≡ 0 → readStateOf (writtenState s f) ≡ acceptedState f
+-- a state within the envelope, written into 180 bytes and read again, is accepted and the same
+pub written-then-read : (s : List ℕ) (f : Flight) → length s ≡ 180 → FlightFits f → outsideOf f ≡ 0 → readStateOf (writtenState s f) ≡ acceptedState f
 unfolding writtenState readStateOf testedState
 written-then-read s f l h o =
-    let b : 0 + 148 ≤ length s = omega arith in
+    let b : 0 + 180 ≤ length s = omega arith in
     simp (eq-eqb _ _ l, eq-eqb _ _ (length-putFlight s 0 f b h ∙ l), flight-same s 0 f b h, eq-eqb _ _ o)
 
 -- what is read from bytes is such a state
@@ -337,6 +350,7 @@ flight-fits s i = record {
   motors-fit = floats-fit s (i + 52);
   servos-fit = floats-fit s (i + 84);
   scales-fit = floats-fit s (i + 116);
+  lift-fits = floats-fit s (i + 148);
 }
 
 -- ---- the whole tick

@@ -1,5 +1,5 @@
--- The state block and the tick block (01, "Blocks"; 02, 2): which number stands where in the bytes, and what reading and writing a state
--- block gives. A block's bytes are a list of numbers below 256. Definitions only.
+-- The state block and the tick block (01, "Blocks"; 02, 2 and 5): which number stands where in the bytes, and what reading and writing
+-- a state block gives. A block's bytes are a list of numbers below 256. Definitions only.
 use Prim.Native.Nat.{_*_, _+_, suc, zero, ℕ}
 use lib.Dec.{eqb}
 use lib.Ieee.{Float, binary32, ofBits, toBits}
@@ -37,7 +37,7 @@ attitudeBytes = 4 * numberBytes
 abbrev pub slotsBytes : ℕ
 slotsBytes = 8 * numberBytes
 
--- where the parts of a state stand: the position first, the thrust scales last
+-- where the parts of a state stand: the position first, the lift rotors' values last
 abbrev pub velocityAt : ℕ
 velocityAt = vecBytes
 
@@ -56,8 +56,11 @@ servosAt = motorsAt + slotsBytes
 abbrev pub scalesAt : ℕ
 scalesAt = servosAt + slotsBytes
 
+abbrev pub liftAt : ℕ
+liftAt = scalesAt + slotsBytes
+
 abbrev pub stateBytes : ℕ
-stateBytes = scalesAt + slotsBytes
+stateBytes = liftAt + slotsBytes
 
 -- where the parts of a tick stand, its step being the first
 abbrev pub windAt : ℕ
@@ -91,9 +94,9 @@ slotFrom s i k = floatAt s (i + numberBytes * k)
 unfoldable pub floatsFrom : List ℕ → ℕ → List Float
 floatsFrom s i = slots (slotFrom s i)
 
--- the state whose block begins at i, with the thrust scales given
-unfoldable pub flightWith : List Float → List ℕ → ℕ → Flight
-flightWith scales s i = record {
+-- the state whose block begins at i, with the thrust scales and the lift rotors' values given
+unfoldable pub flightWith : List Float → List Float → List ℕ → ℕ → Flight
+flightWith scales lift s i = record {
   body = record {
     «position_ned_m» = vecFrom s i;
     «velocity_ned_mps» = vecFrom s (i + velocityAt);
@@ -103,15 +106,20 @@ flightWith scales s i = record {
   motors = floatsFrom s (i + motorsAt);
   servos = floatsFrom s (i + servosAt);
   «thrust_scale» = scales;
+  «lift_motors» = lift;
 }
 
 -- and with its own
 unfoldable pub flightFrom : List ℕ → ℕ → Flight
-flightFrom s i = flightWith (floatsFrom s (i + scalesAt)) s i
+flightFrom s i = flightWith (floatsFrom s (i + scalesAt)) (floatsFrom s (i + liftAt)) s i
 
 -- the scales of a block without any: all 1
 abbrev pub unscaled : List Float
 unscaled = replicate 8 one
+
+-- and the lift rotors' values: all 0
+abbrev pub unlifted : List Float
+unlifted = replicate 8 nought
 
 -- the tick whose block begins at i
 unfoldable pub tickFrom : List ℕ → ℕ → Tick
@@ -134,14 +142,16 @@ acceptedState f = record { answer = Done; flight = f }
 unfoldable pub testedState : Flight → StateRead
 testedState f = cond (eqb (outsideOf f) 0) (acceptedState f) (refusedState StateOutside)
 
--- by its length, a line for each that is accepted: 148 bytes, and 116, which end where the scales begin (02, 2)
+-- by its length, a line for each that is accepted: 180 bytes; 148, which end where the lift rotors' values begin (02, 5); and 116,
+-- which end where the scales begin (02, 2)
 unfoldable pub readStateOf : List ℕ → StateRead
 readStateOf s =
     cond (eqb (length s) stateBytes) (testedState (flightFrom s 0))
-    (cond (eqb (length s) scalesAt) (testedState (flightWith unscaled s 0))
-    (refusedState WrongLength))
+    (cond (eqb (length s) liftAt) (testedState (flightWith (floatsFrom s scalesAt) unlifted s 0))
+    (cond (eqb (length s) scalesAt) (testedState (flightWith unscaled unlifted s 0))
+    (refusedState WrongLength)))
 
--- a block of all its bytes, and of no fewer (02, 2: what program fly takes)
+-- a block of all its bytes, and of no fewer (02, 5: what program fly takes)
 unfoldable pub readFullOf : List ℕ → StateRead
 readFullOf s = cond (eqb (length s) stateBytes) (readStateOf s) (refusedState WrongLength)
 
@@ -175,7 +185,7 @@ unfoldable pub putFloats : List ℕ → ℕ → List Float → ℕ → List ℕ
 putFloats s i xs zero = s
 putFloats s i xs (suc n) = putFloat (putFloats s i xs n) (i + numberBytes * n) (at xs n)
 
--- the body's numbers, then the running values, then the scales
+-- the body's numbers, then the running values, the scales, and the lift rotors' values
 unfoldable pub putBody : List ℕ → ℕ → Body → List ℕ
 putBody s i b =
     putVec
@@ -189,9 +199,13 @@ putBody s i b =
 unfoldable pub putFlight : List ℕ → ℕ → Flight → List ℕ
 putFlight s i f =
     putFloats
+    (putFloats
     (putFloats (putFloats (putBody s i (f .body)) (i + motorsAt) (f .motors) 8) (i + servosAt) (f .servos) 8)
     (i + scalesAt)
     (f .«thrust_scale»)
+    8)
+    (i + liftAt)
+    (f .«lift_motors»)
     8
 
 unfoldable pub putTick : List ℕ → ℕ → Tick → List ℕ

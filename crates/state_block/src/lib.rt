@@ -32,7 +32,10 @@ pub const SERVOS_AT: usize = MOTORS_AT + SLOTS_BYTES;
 // Where the thrust scales begin; a block from before there were any ends here (02, 2).
 pub const SCALES_AT: usize = SERVOS_AT + SLOTS_BYTES;
 
-pub const STATE_BYTES: usize = SCALES_AT + SLOTS_BYTES;
+// Where the lift rotors' running values begin; a block from before there were any ends here (02, 5).
+pub const LIFT_AT: usize = SCALES_AT + SLOTS_BYTES;
+
+pub const STATE_BYTES: usize = LIFT_AT + SLOTS_BYTES;
 
 // A tick block: the step at 0.
 pub const WIND_AT: usize = NUMBER_BYTES;
@@ -92,10 +95,10 @@ fn read_floats(s: &[u8], at: usize) -> [f32; 8]
     xs
 }
 
-// The state whose block stands at `at`, with the thrust scales given.
-fn read_flight(s: &[u8], at: usize, thrust_scale: [f32; 8]) -> Flight
+// The state whose block stands at `at`, with the thrust scales and the lift rotors' values given.
+fn read_flight(s: &[u8], at: usize, thrust_scale: [f32; 8], lift_motors: [f32; 8]) -> Flight
     requires { do ⌜ at + Layout.scalesAt ≤ (← ⟦s.len()⟧) ⌝ }
-    ensures { λ r. ⌜ r ≡ Layout.flightWith «thrust_scale» (now (s .entry)) at ⌝ }
+    ensures { λ r. ⌜ r ≡ Layout.flightWith «thrust_scale» «lift_motors» (now (s .entry)) at ⌝ }
 {
     let position_ned_m = read_vec(s, at);
     let velocity_ned_mps = read_vec(s, at + VELOCITY_AT);
@@ -114,6 +117,7 @@ fn read_flight(s: &[u8], at: usize, thrust_scale: [f32; 8]) -> Flight
         motors,
         servos,
         thrust_scale,
+        lift_motors,
     }
 }
 
@@ -139,22 +143,27 @@ fn tested(flight: Flight) -> StateRead
 }
 
 // The state block `s`, by its length: refused where no block has that many bytes, or where the state is outside the envelope. A
-// block of 116 bytes has no thrust scales, which then are 1.
+// block of 148 bytes has no values of lift rotors, which then are 0; one of 116 has no thrust scales either, which then are 1.
 pub fn read_state(s: &[u8]) -> StateRead
     ensures { λ r. ⌜ r ≡ Layout.readStateOf (now (s .entry)) ⌝ }
 {
     let n = s.len();
     if n == STATE_BYTES {
         let scales = read_floats(s, SCALES_AT);
-        return tested(read_flight(s, 0, scales));
+        let lift = read_floats(s, LIFT_AT);
+        return tested(read_flight(s, 0, scales, lift));
+    }
+    if n == LIFT_AT {
+        let scales = read_floats(s, SCALES_AT);
+        return tested(read_flight(s, 0, scales, [0.0; 8]));
     }
     if n == SCALES_AT {
-        return tested(read_flight(s, 0, [1.0; 8]));
+        return tested(read_flight(s, 0, [1.0; 8], [0.0; 8]));
     }
     refused(Answer::WrongLength)
 }
 
-// The state block `s` of all 148 bytes, and of no fewer: what the programs read (02, 2).
+// The state block `s` of all 180 bytes, and of no fewer: what the programs read (02, 5).
 pub fn read_full_state(s: &[u8]) -> StateRead
     ensures { λ r. ⌜ r ≡ Layout.readFullOf (now (s .entry)) ⌝ }
 {
@@ -261,13 +270,15 @@ fn write_flight(s: &mut [u8], at: usize, f: Flight)
     let motors = f.motors;
     let servos = f.servos;
     let thrust_scale = f.thrust_scale;
+    let lift_motors = f.lift_motors;
     write_body(s, at, f.body);
     write_floats(s, at + MOTORS_AT, motors);
     write_floats(s, at + SERVOS_AT, servos);
     write_floats(s, at + SCALES_AT, thrust_scale);
+    write_floats(s, at + LIFT_AT, lift_motors);
 }
 
-// The state's bytes into `s`, which must have as many as a state block, 148: else the bytes stay as found. The numbers are not tested.
+// The state's bytes into `s`, which must have as many as a state block, 180: else the bytes stay as found. The numbers are not tested.
 pub fn write_state(s: &mut [u8], f: Flight) -> Answer
     ensures { λ r. ⌜ now (s .exit) ≡ Layout.writtenState (now (s .entry)) f ⌝ }
     ensures { λ r. ⌜ r ≡ Layout.writeAnswer Layout.stateBytes (now (s .entry)) ⌝ }

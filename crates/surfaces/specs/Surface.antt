@@ -12,7 +12,7 @@ use Rattle.mixers.specs.Slots.{at, slots, vecAt, vecSumTo}
 use Rattle.mixers.specs.declared.MixRow.{MixRow}
 use Rattle.mixers.specs.declared.Rows.{Rows}
 use Rattle.mixers.specs.declared.Slot.{Slot}
-use Rattle.mixers.specs.declared.Slot.the-variants.{Motor, Servo}
+use Rattle.mixers.specs.declared.Slot.the-variants.{Lift, Motor, Servo}
 use Rattle.vector.specs.Vector.{componentMul, scaleOf, vec, zeroVec}
 use Rattle.vector.specs.declared.Vec3.{Vec3}
 use Rattle.surfaces.specs.declared.Factors.{Factors}
@@ -25,6 +25,7 @@ putServo f k v = cond (ltb k 8) (record { at = set (f .at) k v }) f
 unfoldable pub putAt : Factors → Slot → Vec3 → Factors
 putAt f (Motor k) v = f
 putAt f (Servo k) v = putServo f k v
+putAt f (Lift k) v = f
 
 unfoldable pub putOf : Factors → MixRow → Factors
 putOf f row = putAt f (row .slot) (rowFactors row)

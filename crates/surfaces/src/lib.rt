@@ -85,6 +85,7 @@ impl Factors {
         match slot {
             Slot::Servo(index) => self.put_servo(index as usize, row.factors()),
             Slot::Motor(_) => self,
+            Slot::Lift(_) => self,
         }
     }
 

@@ -8,3 +8,4 @@ pub mod Steps
 pub mod Pulls
 pub mod Scales
 pub mod Shares
+pub mod Lift

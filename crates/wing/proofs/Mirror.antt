@@ -6,7 +6,7 @@ use lib.Ieee.{Float}
 use lib.IntN.{pos}
 use mathlib.Core.Bool.{false, true}
 use mathlib.Core.List.{List}
-use mathlib.Core.Path.{_≡_, ap, ap₂, refl, subst, sym}
+use mathlib.Core.Path.{_∙_, _≡_, ap, ap₂, refl, subst, sym}
 use Rattle.aero.proofs.Mirror.{wrench-mirror}
 use Rattle.aero.specs.Reflection.{AeroRel}
 use Rattle.aero.specs.declared.Aero.{Aero}
@@ -16,9 +16,10 @@ use Rattle.airframe.specs.Reflection.{AirframeRel}
 use Rattle.airframe.specs.declared.Airframe.{Airframe}
 use Rattle.answers.specs.declared.Answer.{Answer}
 use Rattle.answers.specs.declared.Answer.the-variants.{Departure, NumberOutOfRange, StateOutside, StepOutside, WindUnusable}
-use Rattle.body.proofs.Mirror.{air-velocity-mirror, step-mirror}
-use Rattle.body.specs.Reflection.{BodyRel}
+use Rattle.body.proofs.Mirror.{add-wrench-mirror, air-velocity-mirror, step-mirror}
+use Rattle.body.specs.Reflection.{BodyRel, WrenchRel}
 use Rattle.body.specs.declared.Body.{Body}
+use Rattle.body.specs.declared.Wrench.{Wrench}
 use Rattle.fixed_wing.specs.declared.FixedWingModel.{FixedWingModel}
 use Rattle.flight.proofs.Mirror.{outside-is}
 use Rattle.flight.specs.Envelope.{isInside}
@@ -30,10 +31,12 @@ use Rattle.float.specs.Interval.{inside}
 use Rattle.float.specs.Notation.{_⊗_, nought}
 use Rattle.float.specs.Same.{Rel}
 use Rattle.lag.specs.Lag.{factorOf, stepLeast, stepMost}
-use Rattle.motors.proofs.Mirror.{MotorsRel, lag-factor-is, spin-mirror, thrust-is, torque-mirror}
-use Rattle.motors.specs.Motor.{lagFactor}
+use Rattle.motors.proofs.Mirror.{MotorsRel, PullRel, lag-factor-is, pull-mirror, spin-mirror}
+use Rattle.motors.specs.Motor.{lagFactor, spinOf}
 use Rattle.motors.specs.declared.MotorWrench.{MotorWrench}
 use Rattle.motors.specs.declared.Motors.{Motors}
+use Rattle.quadplane_model.proofs.Mirror.{lift-mirror, rotors-mirror}
+use Rattle.quadplane_model.specs.Lift.{rotorsAt, rotorsSpun}
 use Rattle.surfaces.proofs.Mirror.{SurfacesRel, deflection-mirror, move-mirror}
 use Rattle.surfaces.specs.Surface.{moveTo}
 use Rattle.surfaces.specs.declared.Surfaces.{Surfaces}
@@ -42,9 +45,9 @@ use Rattle.vector.proofs.Mirror.{add-mirror, inverse-rotate-mirror, rotate-mirr
 use Rattle.vector.specs.Reflection.{QuatRel, VecRel}
 use Rattle.vector.specs.declared.Quaternion.{Quaternion}
 use Rattle.vector.specs.declared.Vec3.{Vec3}
-use Rattle.wing.specs.Loads.{aeroOf, airOf, withThrust, loadsOf, loadsUnder, motorsFor, pullOf, surfacesFor, washFor}
+use Rattle.wing.specs.Loads.{aeroOf, airOf, loadedBy, loadsOf, loadsUnder, motorsFor, pullOf, surfacesFor, washFor, withLift, withThrust}
 use Rattle.wing.specs.Reflection.{LoadedRel, TickedRel}
-use Rattle.wing.specs.Tick.{airDensity, acceptedTick, unlessDeparted, massOf, movedOf, nextFrom, nextOf, refusedOf, spunOf, steppedOf, tickOf, windMost, windUsable}
+use Rattle.wing.specs.Tick.{airDensity, acceptedTick, liftSpun, liftedOf, unlessDeparted, massOf, movedOf, nextFrom, nextOf, refusedOf, spunOf, steppedOf, tickOf, windMost, windUsable}
 use Rattle.wing.specs.declared.Loaded.{Loaded}
 use Rattle.wing.specs.declared.Ticked.{Ticked}
 
@@ -65,59 +68,62 @@ wash-for-is : {a a' : Airframe} {u u' : Float} (thrust density : Float) → Airf
 unfolding washFor
 wash-for-is {a} thrust density h r = rw (h .wash-present, h .wash, wash-is (a .wash) thrust density r)
 
-with-thrust-mirror : {q q' : Quaternion} {p p' : MotorWrench} {aero aero' : Aero} {m m' : FixedWingModel} → m' ≡ m → QuatRel q q' → p' .«thrust_n» ≡ p .«thrust_n» → VecRel true (p .«torque_nm») (p' .«torque_nm»)
-    → AeroRel aero aero' → LoadedRel (withThrust m q p aero) (withThrust m' q' p' aero')
+with-thrust-mirror : {p p' : MotorWrench} {aero aero' : Aero} {m m' : FixedWingModel} → m' ≡ m → PullRel p p' → AeroRel aero aero' → WrenchRel (withThrust m p aero) (withThrust m' p' aero')
 unfolding withThrust
-with-thrust-mirror i q e t h = record {
-  loads = record {
-    force = rotate-mirror q (add-mirror (h .force) (vec-mirror (r-is e) (r-zero true false false (pos 0)) (r-zero false false false (pos 0))));
-    torque = add-mirror (add-mirror (h .torque) t) (vec-mirror (r-zero true false false (pos 0)) (r-is (ap₂ (λ (z : Float) (n : FixedWingModel). z ⊗ n .«thrust_line_below_cg_m») e i)) (r-zero true false false (pos 0)));
-    damping = zero-mirror true;
-  };
+with-thrust-mirror i k h = record {
+  force = add-mirror (h .force) (vec-mirror (r-is (k .thrust)) (r-zero true false false (pos 0)) (r-zero false false false (pos 0)));
+  torque = add-mirror (add-mirror (h .torque) (k .torque)) (vec-mirror (r-zero true false false (pos 0)) (r-is (ap₂ (λ (z : Float) (n : FixedWingModel). z ⊗ n .«thrust_line_below_cg_m») (k .thrust) i)) (r-zero true false false (pos 0)));
+}
+
+with-lift-mirror : {a a' : Airframe} {xs xs' : List Float} {u u' : Vec3} {w w' : Wrench} → AirframeRel a a' → xs' ≡ xs → VecRel false u u' → WrenchRel w w' → WrenchRel (withLift a xs u w) (withLift a' xs' u' w')
+unfolding withLift
+with-lift-mirror {a} {a'} h e air k = by-test WrenchRel (a .«lift_present») (a' .«lift_present») (h .lift-present) (λ p. add-wrench-mirror k (lift-mirror (h .lift) e air)) (λ p. k)
+
+loaded-mirror : {q q' : Quaternion} {w w' : Wrench} {aero aero' : Aero} {z z' : Float} → QuatRel q q' → WrenchRel w w' → AeroRel aero aero' → z' ≡ z → LoadedRel (loadedBy q w aero z) (loadedBy q' w' aero' z')
+unfolding loadedBy
+loaded-mirror q k h e = record {
+  loads = record { force = rotate-mirror q (k .force); torque = k .torque; damping = zero-mirror true };
   alpha = h .alpha;
   beta = h .beta;
   thrust = r-is e;
 }
 
-pull-is : {a a' : Airframe} {m m' : Motors} {u u' : Vec3} → AirframeRel a a' → MotorsRel m m' → VecRel false u u' → pullOf (a' .model) m' u' .«thrust_n» ≡ pullOf (a .model) m u .«thrust_n»
+pull-for-mirror : {a a' : Airframe} {m m' : Motors} {u u' : Vec3} → AirframeRel a a' → MotorsRel m m' → VecRel false u u' → PullRel (pullOf (a .model) m u) (pullOf (a' .model) m' u')
 unfolding pullOf
-pull-is {a} h k u = rw (h .model) (thrust-is (a .model .«thrust_falloff») k (u .x))
+pull-for-mirror {a} h k u = rw (h .model) (pull-mirror (a .model .«thrust_falloff») k (u .x))
 
-pull-mirror : {a a' : Airframe} {m m' : Motors} {u u' : Vec3} → AirframeRel a a' → MotorsRel m m' → VecRel false u u' → VecRel true (pullOf (a .model) m u .«torque_nm») (pullOf (a' .model) m' u' .«torque_nm»)
-unfolding pullOf
-pull-mirror {a} h k u = rw (h .model) (torque-mirror (a .model .«thrust_falloff») k (u .x))
-
-aero-mirror : {a a' : Airframe} {s s' : Surfaces} {b b' : Body} {u u' : Vec3} (thrust density : Float) → AirframeRel a a' → SurfacesRel s s' → BodyRel b b' → VecRel false u u'
-    → AeroRel (aeroOf a thrust s b u density) (aeroOf a' thrust s' b' u' density)
+aero-mirror : {a a' : Airframe} {s s' : Surfaces} {b b' : Body} {u u' : Vec3} (thrust thrust' density : Float) → thrust' ≡ thrust → AirframeRel a a' → SurfacesRel s s' → BodyRel b b' → VecRel false u u'
+    → AeroRel (aeroOf a thrust s b u density) (aeroOf a' thrust' s' b' u' density)
 unfolding aeroOf
-aero-mirror {a} {a'} {s} {s'} {b} {b'} {u} thrust density h l g air =
-    rw (wash-for-is thrust density h (air .x), h .model) (wrench-mirror (a .model) (washFor a thrust (u .x) density) density air (g .rates) (deflection-mirror (a .model .«max_deflection_rad») l))
+aero-mirror {a} {a'} {s} {s'} {b} {b'} {u} thrust thrust' density e h l g air =
+    rw (e, wash-for-is thrust density h (air .x), h .model) (wrench-mirror (a .model) (washFor a thrust (u .x) density) density air (g .rates) (deflection-mirror (a .model .«max_deflection_rad») l))
 
-pub loads-mirror : {a a' : Airframe} {m m' : Motors} {s s' : Surfaces} {b b' : Body} {wind wind' : Vec3} (density : Float) → AirframeRel a a' → MotorsRel m m' → SurfacesRel s s' → BodyRel b b'
-    → VecRel false wind wind' → LoadedRel (loadsOf a m s b wind density) (loadsOf a' m' s' b' wind' density)
+pub loads-mirror : {a a' : Airframe} {m m' : Motors} {s s' : Surfaces} {xs xs' : List Float} {b b' : Body} {wind wind' : Vec3} (density : Float) → AirframeRel a a' → MotorsRel m m' → SurfacesRel s s' → xs' ≡ xs → BodyRel b b'
+    → VecRel false wind wind' → LoadedRel (loadsOf a m s xs b wind density) (loadsOf a' m' s' xs' b' wind' density)
 unfolding loadsOf loadsUnder
-loads-mirror {a} {m} {b} {wind} density h k l g w =
+loads-mirror density h k l e g w =
     let air = air-mirror g w in
-    let thrust = pullOf (a .model) m (airOf b wind) .«thrust_n» in
-    with-thrust-mirror (h .model) (g .attitude) (pull-is h k air) (pull-mirror h k air) (rw (pull-is h k air) (aero-mirror thrust density h l g air))
+    let pull = pull-for-mirror h k air in
+    let aero = aero-mirror _ _ density (pull .thrust) h l g air in
+    loaded-mirror (g .attitude) (with-lift-mirror h e air (with-thrust-mirror (h .model) pull aero)) aero (pull .thrust)
 
 -- ---- the step
-stepped-mirror : {f f' : Flight} {l l' : Loaded} (m : FixedWingModel) (motors servos : List Float) (h : Float) → FlightRel f f' → LoadedRel l l' → TickedRel (steppedOf m f motors servos l h) (steppedOf m f' motors servos l' h)
+stepped-mirror : {f f' : Flight} {l l' : Loaded} (m : FixedWingModel) (motors servos lifting : List Float) (h : Float) → FlightRel f f' → LoadedRel l l' → TickedRel (steppedOf m f motors servos lifting l h) (steppedOf m f' motors servos lifting l' h)
 unfolding steppedOf
-stepped-mirror m motors servos h k l = record {
+stepped-mirror m motors servos lifting h k l = record {
   report = record { answer = refl; alpha = l .alpha; beta = l .beta; thrust = l .thrust };
-  flight = record { body = step-mirror (massOf m) h (k .body) (l .loads); motors = refl; servos = refl; scale = k .scale };
+  flight = record { body = step-mirror (massOf m) h (k .body) (l .loads); motors = refl; servos = refl; scale = k .scale; lift = refl };
 }
 
-stepped-same : {f f' : Flight} {l l' : Loaded} (m m' : FixedWingModel) (motors motors' servos servos' : List Float) (h : Float) → m' ≡ m → motors' ≡ motors → servos' ≡ servos → FlightRel f f' → LoadedRel l l'
-    → TickedRel (steppedOf m f motors servos l h) (steppedOf m' f' motors' servos' l' h)
-stepped-same m m' motors motors' servos servos' h i e s k l = rw (i, e, s) (stepped-mirror m motors servos h k l)
+stepped-same : {f f' : Flight} {l l' : Loaded} (m m' : FixedWingModel) (motors motors' servos servos' xs xs' : List Float) (h : Float) → m' ≡ m → motors' ≡ motors → servos' ≡ servos → xs' ≡ xs → FlightRel f f' → LoadedRel l l'
+    → TickedRel (steppedOf m f motors servos xs l h) (steppedOf m' f' motors' servos' xs' l' h)
+stepped-same m m' motors motors' servos servos' xs xs' h i e s x k l = rw (i, e, s, x) (stepped-mirror m motors servos xs h k l)
 
-next-from-mirror : {a a' : Airframe} {f f' : Flight} {m m' : Motors} {s s' : Surfaces} {wind wind' : Vec3} (h : Float) → AirframeRel a a' → FlightRel f f' → MotorsRel m m' → SurfacesRel s s' → VecRel false wind wind'
-    → TickedRel (nextFrom a f m s wind h) (nextFrom a' f' m' s' wind' h)
+next-from-mirror : {a a' : Airframe} {f f' : Flight} {m m' : Motors} {s s' : Surfaces} {xs xs' : List Float} {wind wind' : Vec3} (h : Float) → AirframeRel a a' → FlightRel f f' → MotorsRel m m' → SurfacesRel s s' → xs' ≡ xs → VecRel false wind wind'
+    → TickedRel (nextFrom a f m s xs wind h) (nextFrom a' f' m' s' xs' wind' h)
 unfolding nextFrom
-next-from-mirror {a} {a'} {f} {f'} {m} {m'} {s} {s'} step h k g l w =
-    stepped-same (a .model) (a' .model) (m .running) (m' .running) (s .running) (s' .running) step (h .model) (g .running) (l .running) k (loads-mirror airDensity h g l (k .body) w)
+next-from-mirror {a} {a'} {f} {f'} {m} {m'} {s} {s'} {xs} {xs'} step h k g l e w =
+    stepped-same (a .model) (a' .model) (m .running) (m' .running) (s .running) (s' .running) xs xs' step (h .model) (g .running) (l .running) e k (loads-mirror airDensity h g l e (k .body) w)
 
 spun-mirror : {a a' : Airframe} {f f' : Flight} (commands : List Float) (step : Float) → AirframeRel a a' → FlightRel f f' → MotorsRel (spunOf a f commands step) (spunOf a' f' commands step)
 unfolding spunOf
@@ -129,10 +135,17 @@ moved-mirror {a} {a'} {f} {f'} commands step h k =
     subst (λ (m : FixedWingModel). SurfacesRel (moveTo (surfacesFor a f) commands (factorOf step (a .model .«servo_time_constant_s»))) (moveTo (surfacesFor a' f') commands (factorOf step (m .«servo_time_constant_s»)))) (sym (h .model))
     (move-mirror commands (factorOf step (a .model .«servo_time_constant_s»)) (surfaces-mirror h k))
 
+lifted-is : {a a' : Airframe} {f f' : Flight} (commands : List Float) (step : Float) → AirframeRel a a' → FlightRel f f' → liftedOf a' f' commands step ≡ liftedOf a f commands step
+unfolding liftedOf liftSpun rotorsSpun
+lifted-is {a} {a'} {f} {f'} commands step h k =
+    by-test (λ (xs xs' : List Float). xs' ≡ xs) (a .«lift_present») (a' .«lift_present») (h .lift-present)
+    (λ p. ap (λ (z : Float). spinOf (rotorsAt (a' .lift) (f' .«lift_motors»)) commands z .running) (lag-factor-is step (h .lift .motors)) ∙ spin-mirror commands (lagFactor (a .lift .motors) step) (rotors-mirror (h .lift) (k .lift)) .running)
+    (λ p. k .lift)
+
 pub next-mirror : {a a' : Airframe} {f f' : Flight} {t t' : Tick} → AirframeRel a a' → FlightRel f f' → TickRel t t' → TickedRel (nextOf a f t) (nextOf a' f' t')
 unfolding nextOf
 next-mirror {t} h k w =
-    rw (w .step, w .motors, w .servos) (next-from-mirror (t .«step_s») h k (spun-mirror (t .motors) (t .«step_s») h k) (moved-mirror (t .servos) (t .«step_s») h k) (w .wind))
+    rw (w .step, w .motors, w .servos) (next-from-mirror (t .«step_s») h k (spun-mirror (t .motors) (t .«step_s») h k) (moved-mirror (t .servos) (t .«step_s») h k) (lifted-is (t .motors) (t .«step_s») h k) (w .wind))
 
 -- ---- the tests
 refused-mirror : {f f' : Flight} (x : Answer) → FlightRel f f' → TickedRel (refusedOf x f) (refusedOf x f')

@@ -1,19 +1,20 @@
--- Where a tick leaves the running values, by the lag's rounding bound and not by test 9: of an accepted airframe and an accepted step, from motors in 0..1 and surfaces in -1..1, the next
--- state's lie there again, an unused motor runs as before, and the thrust scales are those of before. So test 9 never fires on a running value or a scale. Assumes nothing.
+-- Where a tick leaves the running values, by the lag's rounding bound and not by test 9: of an accepted airframe and an accepted step, from motors of both groups in 0..1 and surfaces in
+-- -1..1, the next state's lie there again, an unused motor runs as before, without lift numbers every lift rotor does, and the thrust scales are those of before. So test 9 never fires on a running value or a scale. Assumes nothing.
 use Prim.Native.Nat.{_<_, ℕ}
 use lib.Ieee.{Float, nan}
-use mathlib.Core.Bool.{true}
+use mathlib.Core.Bool.{false, true}
 use mathlib.Core.List.{List, []}
-use mathlib.Core.Path.{_≡_, refl, subst, sym}
+use mathlib.Core.Path.{_∙_, _≡_, refl, subst, sym}
 use native.Mathlib.Omega.{arith}
-use Rattle.airframe.proofs.Range.{motor-constant-in, servo-constant-in}
+use Rattle.airframe.proofs.Range.{lift-constant-in, motor-constant-in, servo-constant-in}
 use Rattle.airframe.specs.Acceptance.{refusedPlace}
 use Rattle.airframe.specs.declared.Airframe.{Airframe}
-use Rattle.flight.proofs.Range.{motor-within, scale-within, servo-within}
+use Rattle.flight.proofs.Range.{lift-within, motor-within, scale-within, servo-within}
 use Rattle.flight.specs.Envelope.{outsideOf, slotInside, slotsOutside}
 use Rattle.flight.specs.declared.Flight.{Flight}
 use Rattle.flight.specs.declared.Tick.{Tick}
 use Rattle.float.proofs.Bounds.{inside-within, within-inside}
+use Rattle.float.proofs.Tests.{by-cases}
 use Rattle.ordered.proofs.Ordered.{none-fails}
 use Rattle.float.specs.Interval.{Within, inside}
 use Rattle.float.specs.Notation.{minusOne, nought, one}
@@ -24,12 +25,13 @@ use Rattle.mixers.specs.Slots.{at}
 use Rattle.motors.proofs.Range as Group
 use Rattle.motors.proofs.Range.{spin-held, spin-leaves, spin-running, still-same}
 use Rattle.motors.specs.Motor.{lagFactor, spinOf}
+use Rattle.quadplane_model.specs.Lift.{rotorsAt, rotorsSpun}
 use Rattle.surfaces.proofs.Range.{move-in}
 use Rattle.surfaces.specs.Surface.{moveAt, moveTo}
 use Rattle.wing.specs.Loads.{motorsFor, surfacesFor}
 use Rattle.wing.proofs.Passed.{of-tick}
 use Rattle.wing.proofs.Running.{Held, Running, Still}
-use Rattle.wing.specs.Tick.{movedOf, nextFrom, nextOf, refusedOf, spunOf, steppedOf, tickOf}
+use Rattle.wing.specs.Tick.{liftSpun, liftedOf, movedOf, nextFrom, nextOf, refusedOf, spunOf, steppedOf, tickOf}
 use Rattle.wing.specs.declared.Ticked.{Ticked}
 
 -- ---- the next state
@@ -47,6 +49,32 @@ pub next-scale : (a : Airframe) (f : Flight) (t : Tick) → nextOf a f t .flight
 unfolding nextOf nextFrom steppedOf
 next-scale a f t = refl
 
+-- the lift rotors, where there are lift numbers and where not
+module _ (a : Airframe) (f : Flight) (t : Tick) where
+  abbrev rotors : List Float
+  rotors = f .«lift_motors»
+
+  pub next-lift : nextOf a f t .flight .«lift_motors» ≡ liftedOf a f (t .motors) (t .«step_s»)
+  unfolding nextOf nextFrom steppedOf
+  next-lift = refl
+
+  lift-running : refusedPlace a ≡ 0 → inside stepLeast stepMost (t .«step_s») ≡ true → Group.Held rotors → Group.Running rotors → Group.Running (liftedOf a f (t .motors) (t .«step_s»))
+  unfolding liftedOf liftSpun rotorsSpun rotorsAt lagFactor
+  lift-running e s g r =
+      by-cases Group.Running (a .«lift_present») (λ p. spin-running (rotorsAt (a .lift) rotors) (t .motors) _ g r (factor-in _ _ (inside-within s) (lift-constant-in a e p))) r
+
+  lift-leaves : Group.Still (a .lift .motors .used) rotors (liftedOf a f (t .motors) (t .«step_s»))
+  unfolding liftedOf liftSpun rotorsSpun rotorsAt
+  lift-leaves = by-cases (Group.Still (a .lift .motors .used) rotors) (a .«lift_present») (λ p. spin-leaves (rotorsAt (a .lift) rotors) (t .motors) _) (still-same _ _)
+
+  pub lift-unmoved : a .«lift_present» ≡ false → liftedOf a f (t .motors) (t .«step_s») ≡ rotors
+  unfolding liftedOf liftSpun
+  lift-unmoved p = rw p
+
+  lift-held : Group.Held rotors → Group.Held (liftedOf a f (t .motors) (t .«step_s»))
+  unfolding liftedOf liftSpun rotorsSpun rotorsAt
+  lift-held g = by-cases Group.Held (a .«lift_present») (λ p. spin-held (rotorsAt (a .lift) rotors) (t .motors) _ g) g
+
 module _ (a : Airframe) (f : Flight) (t : Tick) where
   pub next-running : refusedPlace a ≡ 0 → inside stepLeast stepMost (t .«step_s») ≡ true → Held f → Running f → Running (nextOf a f t .flight)
   unfolding motorsFor surfacesFor lagFactor
@@ -55,20 +83,29 @@ module _ (a : Airframe) (f : Flight) (t : Tick) where
         (spin-running (motorsFor a f) (t .motors) _ (g .motors) (r .motors) (factor-in _ _ (inside-within s) (motor-constant-in a e)));
     servo = λ k l. subst (λ (x : Float). Within minusOne one x) (sym (next-servo a f t k l)) (move-in (surfacesFor a f) (t .servos) _ k (r .servo k l) (factor-in _ _ (inside-within s) (servo-constant-in a e)));
     scale = subst (λ (xs : List Float). (k : ℕ) → k < 8 → Within nought one (at xs k)) (sym (next-scale a f t)) (r .scale);
+    lift = subst Group.Running (sym (next-lift a f t)) (lift-running a f t e s (g .lift) (r .lift));
   }
 
   pub next-still : Still a f (nextOf a f t .flight)
   unfolding motorsFor
-  next-still = record { motors = subst (Group.Still (a .motors .used) (f .motors)) (sym (next-motors a f t)) (spin-leaves (motorsFor a f) (t .motors) _); scale = next-scale a f t }
+  next-still = record {
+    motors = subst (Group.Still (a .motors .used) (f .motors)) (sym (next-motors a f t)) (spin-leaves (motorsFor a f) (t .motors) _);
+    scale = next-scale a f t;
+    lift = subst (Group.Still (a .lift .motors .used) (f .«lift_motors»)) (sym (next-lift a f t)) (lift-leaves a f t);
+    unlifted = λ p. next-lift a f t ∙ lift-unmoved a f t p;
+  }
 
   pub next-held : Held f → Held (nextOf a f t .flight)
   unfolding motorsFor
-  next-held g = record { motors = subst Group.Held (sym (next-motors a f t)) (spin-held (motorsFor a f) (t .motors) _ (g .motors)) }
+  next-held g = record {
+    motors = subst Group.Held (sym (next-motors a f t)) (spin-held (motorsFor a f) (t .motors) _ (g .motors));
+    lift = subst Group.Held (sym (next-lift a f t)) (lift-held a f t (g .lift));
+  }
 
 -- so the tests of the running values and of the scales, the envelope's last, pass: 9 never fires on one
-pub running-inside : (f : Flight) → Running f → (slotsOutside nought one (f .motors) ≡ 0) × (slotsOutside minusOne one (f .servos) ≡ 0) × (slotsOutside nought one (f .«thrust_scale») ≡ 0)
+pub running-inside : (f : Flight) → Running f → (slotsOutside nought one (f .motors) ≡ 0) × (slotsOutside minusOne one (f .servos) ≡ 0) × (slotsOutside nought one (f .«thrust_scale») ≡ 0) × (slotsOutside nought one (f .«lift_motors») ≡ 0)
 unfolding slotsOutside slotInside
-running-inside f r = (none-fails _ 0 8 (λ k l. within-inside (r .motors .motor k (omega (arith, l)))), none-fails _ 0 8 (λ k l. within-inside (r .servo k (omega (arith, l)))), none-fails _ 0 8 (λ k l. within-inside (r .scale k (omega (arith, l)))))
+running-inside f r = (none-fails _ 0 8 (λ k l. within-inside (r .motors .motor k (omega (arith, l)))), none-fails _ 0 8 (λ k l. within-inside (r .servo k (omega (arith, l)))), none-fails _ 0 8 (λ k l. within-inside (r .scale k (omega (arith, l)))), none-fails _ 0 8 (λ k l. within-inside (r .lift .motor k (omega (arith, l)))))
 
 -- ---- a tick, refused or not
 pub record Keeps (a : Airframe) (f : Flight) (r : Ticked) : Type 0 where
@@ -79,9 +116,9 @@ pub record Keeps (a : Airframe) (f : Flight) (r : Ticked) : Type 0 where
 pub tick-keeps : (a : Airframe) (f : Flight) (t : Tick) → Held f → Running f → Keeps a f (tickOf a f t)
 unfolding refusedOf
 tick-keeps a f t g r =
-    of-tick (Keeps a f) a f t (λ x n. record { running = r; still = record { motors = still-same _ _; scale = refl }; held = g })
+    of-tick (Keeps a f) a f t (λ x n. record { running = r; still = record { motors = still-same _ _; scale = refl; lift = still-same _ _; unlifted = λ p. refl }; held = g })
     (λ p. record { running = next-running a f t (p .airframe) (p .step) g r; still = next-still a f t; held = next-held a f t g })
 
 -- ---- an accepted state is in its ranges
 pub accepted-running : (f : Flight) → outsideOf f ≡ 0 → Running f
-accepted-running f e = record { motors = record { motor = λ k l. motor-within f e k l }; servo = λ k l. servo-within f e k l; scale = λ k l. scale-within f e k l }
+accepted-running f e = record { motors = record { motor = λ k l. motor-within f e k l }; servo = λ k l. servo-within f e k l; scale = λ k l. scale-within f e k l; lift = record { motor = λ k l. lift-within f e k l } }

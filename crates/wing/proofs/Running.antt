@@ -1,6 +1,7 @@
 -- What the range law keeps of a state from tick to tick: the ranges of its running values and thrust scales, that an unused
--- motor's value and all scales stay, and that the values are 32-bit floats. Assumes nothing.
+-- motor's value and all scales stay, those of both groups, and that the motors' values are 32-bit floats. Assumes nothing.
 use Prim.Native.Nat.{_<_, ℕ}
+use mathlib.Core.Bool.{false}
 use mathlib.Core.Path.{_≡_}
 use Rattle.airframe.specs.declared.Airframe.{Airframe}
 use Rattle.flight.specs.declared.Flight.{Flight}
@@ -13,11 +14,16 @@ pub record Running (f : Flight) : Type 0 where
   pub motors : Group.Running (f .motors)
   pub servo : (k : ℕ) → k < 8 → Within minusOne one (at (f .servos) k)
   pub scale : (k : ℕ) → k < 8 → Within nought one (at (f .«thrust_scale») k)
+  pub lift : Group.Running (f .«lift_motors»)
 
--- the motors that the airframe's marks leave out run in g as in f, and all are as strong (02, 2)
+-- the motors and lift rotors that their own group's marks leave out run in g as in f, without lift numbers all lift rotors (02, 5),
+-- and all motors are as strong (02, 2)
 pub record Still (a : Airframe) (f g : Flight) : Type 0 where
   pub motors : Group.Still (a .motors .used) (f .motors) (g .motors)
   pub scale : g .«thrust_scale» ≡ f .«thrust_scale»
+  pub lift : Group.Still (a .lift .motors .used) (f .«lift_motors») (g .«lift_motors»)
+  pub unlifted : a .«lift_present» ≡ false → g .«lift_motors» ≡ f .«lift_motors»
 
 pub record Held (f : Flight) : Type 0 where
   pub motors : Group.Held (f .motors)
+  pub lift : Group.Held (f .«lift_motors»)

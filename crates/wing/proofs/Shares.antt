@@ -3,7 +3,7 @@ use Prim.Native.Nat.{_<_, ℕ}
 use lib.Ieee.{eq}
 use mathlib.Core.Bool.{true}
 use mathlib.Core.Path.{_≡_}
-use Rattle.airframe.proofs.Range.{exponent-in}
+use Rattle.airframe.proofs.Range.{exponent-in, lift-exponent-in}
 use Rattle.airframe.specs.Acceptance.{refusedPlace}
 use Rattle.airframe.specs.declared.Airframe.{Airframe}
 use Rattle.flight.specs.declared.Flight.{Flight}
@@ -21,6 +21,11 @@ use Rattle.wing.specs.Tick.{spunOf, tickOf}
 -- ---- of an accepted airframe, at running values in their ranges, as every tick of a run has them
 pub shares-in : (a : Airframe) (f : Flight) → refusedPlace a ≡ 0 → Held f → Running f → (k : ℕ) → k < 8 → Within nought one (thrustFraction (at (f .motors) k) (a .motors .layout .«thrust_exponent»))
 shares-in a f e g r k l = share-in (at (f .motors) k) (a .motors .layout .«thrust_exponent») (g .motors .motor k l) (r .motors .motor k l) (exponent-in a e)
+
+-- and the lift rotors', where there are lift numbers (02, 5)
+pub lift-shares-in : (a : Airframe) (f : Flight) → refusedPlace a ≡ 0 → a .«lift_present» ≡ true → Held f → Running f → (k : ℕ) → k < 8
+    → Within nought one (thrustFraction (at (f .«lift_motors») k) (a .lift .motors .layout .«thrust_exponent»))
+lift-shares-in a f e p g r k l = share-in (at (f .«lift_motors») k) (a .lift .motors .layout .«thrust_exponent») (g .lift .motor k l) (r .lift .motor k l) (lift-exponent-in a e p)
 
 -- ---- the exponent 2
 pub tick-as-square : (a : Airframe) (f : Flight) (t : Tick) → eq (a .motors .layout .«thrust_exponent») two ≡ true

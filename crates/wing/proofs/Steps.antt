@@ -6,7 +6,7 @@ use mathlib.Core.Path.{_∙_, _≡_, ap, sym}
 use Rattle.airframe.specs.declared.Airframe.{Airframe}
 use Rattle.lag.specs.Lag.{factorOf}
 use Rattle.motors.specs.Motor.{lagFactor}
-use Rattle.wing.specs.Contracts.{OfTheirStep, beginOf}
+use Rattle.wing.specs.Contracts.{OfTheirStep, beginOf, liftFactor}
 use Rattle.wing.specs.declared.LagFactors.{LagFactors}
 
 module _ (a : Airframe) where
@@ -16,12 +16,16 @@ module _ (a : Airframe) where
   abbrev servo : Float → Float
   servo x = factorOf x (a .model .«servo_time_constant_s»)
 
+  abbrev lift : Float → Float
+  lift x = liftFactor a x
+
   pub begin-held : (held : LagFactors) (h : Float) → T (fits binary32 h) → toBits binary32 h ≡ held .«step_bits» → OfTheirStep a held → held ≡ beginOf a h
   unfolding beginOf
   begin-held held h f p k = λ i. record {
     «step_bits» = sym p i;
     motor = (k .motor ∙ ap motor e) i;
     servo = (k .servo ∙ ap servo e) i;
+    lift = (k .lift ∙ ap lift e) i;
   }
     where
       e : ofBits binary32 (held .«step_bits») ≡ h
@@ -29,7 +33,7 @@ module _ (a : Airframe) where
 
   pub begin-of-its-step : (h : Float) → T (fits binary32 h) → OfTheirStep a (beginOf a h)
   unfolding beginOf
-  begin-of-its-step h f = record { motor = ap motor e; servo = ap servo e }
+  begin-of-its-step h f = record { motor = ap motor e; servo = ap servo e; lift = ap lift e }
     where
       e : h ≡ ofBits binary32 (toBits binary32 h)
       e = sym (ofBits-toBits binary32 h f)

@@ -23,7 +23,7 @@ use Rattle.lag.specs.Lag.{stepLeast, stepMost}
 use Rattle.vector.proofs.Range.{VecSized, inverse-rotate-sized, norm-sized, sub-sized, vec-within, within-sized}
 use Rattle.vector.specs.declared.Vec3.{Vec3}
 use Rattle.wing.proofs.Passed.{of-tick, passed}
-use Rattle.wing.specs.Loads.{aeroOf, airOf, loadsOf, loadsUnder, withThrust}
+use Rattle.wing.specs.Loads.{aeroOf, airOf, loadedBy, loadsOf, loadsUnder}
 use Rattle.wing.specs.Tick.{acceptedTick, nextFrom, nextOf, refusedOf, steppedOf, tickOf, windMost, windUsable}
 use Rattle.wing.specs.declared.Report.{Report}
 use Rattle.wing.specs.declared.Ticked.{Ticked}
@@ -55,7 +55,7 @@ abbrev pub Angles : Report → Type 0
 Angles r = T (finite (r .«alpha_rad»)) × T (finite (r .«beta_rad»))
 
 next-angles : (a : Airframe) (f : Flight) (t : Tick) → isInside f ≡ true → windUsable (t .«wind_ned_mps») ≡ true → Angles (nextOf a f t .report)
-unfolding nextOf nextFrom steppedOf loadsOf loadsUnder withThrust aeroOf
+unfolding nextOf nextFrom steppedOf loadsOf loadsUnder loadedBy aeroOf
 next-angles a f t i u = wrench-angles _ _ _ _ _ _ (air-sized f (t .«wind_ned_mps») i u)
 
 pub tick-angles : (a : Airframe) (f : Flight) (t : Tick) → Angles (tickOf a f t .report)

@@ -1,17 +1,20 @@
--- The loads on the body (01, module 8), with neither a lift group nor a delay line. Definitions only.
+-- The loads on the body (01, module 8, without its delay line; 02, 5). Definitions only.
 use lib.Ieee.{Float}
 use mathlib.Core.Bool.{cond}
+use mathlib.Core.List.{List}
 use Rattle.aero.specs.Wrench.{wrenchOf}
 use Rattle.aero.specs.declared.Aero.{Aero}
 use Rattle.airframe.specs.declared.Airframe.{Airframe}
-use Rattle.body.specs.Motion.{airVelocity}
+use Rattle.body.specs.Motion.{addWrench, airVelocity}
 use Rattle.body.specs.declared.Body.{Body}
+use Rattle.body.specs.declared.Wrench.{Wrench}
 use Rattle.fixed_wing.specs.declared.FixedWingModel.{FixedWingModel}
 use Rattle.flight.specs.declared.Flight.{Flight}
 use Rattle.float.specs.Notation.{_⊗_, nought}
 use Rattle.motors.specs.Motor.{wrenchWith}
 use Rattle.motors.specs.declared.MotorWrench.{MotorWrench}
 use Rattle.motors.specs.declared.Motors.{Motors}
+use Rattle.quadplane_model.specs.Lift.{liftWrench}
 use Rattle.surfaces.specs.Surface.{deflectionRad}
 use Rattle.surfaces.specs.declared.Surfaces.{Surfaces}
 use Rattle.tailsitter_model.specs.Slipstream.{noWash, washOf}
@@ -37,18 +40,25 @@ airOf b wind = inverseRotateOf (b .attitude) (airVelocity b wind)
 unfoldable pub washFor : Airframe → Float → Float → Float → Wash
 washFor a thrust axial density = cond (a .«wash_present») (washOf (a .wash) thrust axial density) noWash
 
--- thrust along body x, on a line that may lie below the centre of gravity; the force on NED axes
-unfoldable pub withThrust : FixedWingModel → Quaternion → MotorWrench → Aero → Loaded
-withThrust m q pull aero = record {
-  loads = record {
-    «force_ned_n» = rotateOf q (addOf (aero .«force_n») (vec (pull .«thrust_n») nought nought));
-    «torque_nm» =
-        addOf (addOf (aero .«torque_nm») (pull .«torque_nm»)) (vec nought (pull .«thrust_n» ⊗ m .«thrust_line_below_cg_m») nought);
-    «damping_nm» = zeroVec;
-  };
+-- thrust along body x, on a line that may lie below the centre of gravity
+unfoldable pub withThrust : FixedWingModel → MotorWrench → Aero → Wrench
+withThrust m pull aero = record {
+  «force_n» = addOf (aero .«force_n») (vec (pull .«thrust_n») nought nought);
+  «torque_nm» =
+      addOf (addOf (aero .«torque_nm») (pull .«torque_nm»)) (vec nought (pull .«thrust_n» ⊗ m .«thrust_line_below_cg_m») nought);
+}
+
+-- the lift rotors' force and torque last; without lift numbers they add nothing (02, 5)
+unfoldable pub withLift : Airframe → List Float → Vec3 → Wrench → Wrench
+withLift a lifting air w = cond (a .«lift_present») (addWrench w (liftWrench (a .lift) lifting air)) w
+
+-- the force on NED axes, and what is reported: the thrust is the forward motors' sum
+unfoldable pub loadedBy : Quaternion → Wrench → Aero → Float → Loaded
+loadedBy q w aero thrust = record {
+  loads = record { «force_ned_n» = rotateOf q (w .«force_n»); «torque_nm» = w .«torque_nm»; «damping_nm» = zeroVec };
   «alpha_rad» = aero .«alpha_rad»;
   «beta_rad» = aero .«beta_rad»;
-  «thrust_n» = pull .«thrust_n»;
+  «thrust_n» = thrust;
 }
 
 -- from the running values alone: thrust, wash and aerodynamics in the air that the body meets
@@ -63,10 +73,12 @@ aeroOf a thrust surfaces b air density =
     density
 
 -- under a pull of the motors
-unfoldable pub loadsUnder : Airframe → MotorWrench → Surfaces → Body → Vec3 → Float → Loaded
-loadsUnder a pull surfaces b air density =
-    withThrust (a .model) (b .attitude) pull (aeroOf a (pull .«thrust_n») surfaces b air density)
+unfoldable pub loadsUnder : Airframe → MotorWrench → Surfaces → List Float → Body → Vec3 → Float → Loaded
+loadsUnder a pull surfaces lifting b air density =
+    let aero = aeroOf a (pull .«thrust_n») surfaces b air density in
+    loadedBy (b .attitude) (withLift a lifting air (withThrust (a .model) pull aero)) aero (pull .«thrust_n»)
 
-unfoldable pub loadsOf : Airframe → Motors → Surfaces → Body → Vec3 → Float → Loaded
-loadsOf a motors surfaces b wind density =
-    loadsUnder a (pullOf (a .model) motors (airOf b wind)) surfaces b (airOf b wind) density
+-- `lifting` are the lift rotors' running values
+unfoldable pub loadsOf : Airframe → Motors → Surfaces → List Float → Body → Vec3 → Float → Loaded
+loadsOf a motors surfaces lifting b wind density =
+    loadsUnder a (pullOf (a .model) motors (airOf b wind)) surfaces lifting b (airOf b wind) density

@@ -1,4 +1,4 @@
--- The tick (01, module 8 and "What the bench replies"; 02, 1): tests 6, 7, 8, 10, the step, test 9. Definitions only.
+-- The tick (01, module 8 and "What the bench replies"; 02, 1 and 5): tests 6, 7, 8, 10, the step, test 9. Definitions only.
 use lib.Dec.{eqb}
 use lib.Ieee.{Float}
 use mathlib.Core.Bool.{Bool, cond}
@@ -18,6 +18,7 @@ use Rattle.float.specs.Notation.{nought, rounded}
 use Rattle.lag.specs.Lag.{factorOf, stepLeast, stepMost}
 use Rattle.motors.specs.Motor.{lagFactor, spinOf}
 use Rattle.motors.specs.declared.Motors.{Motors}
+use Rattle.quadplane_model.specs.Lift.{rotorsSpun}
 use Rattle.surfaces.specs.Surface.{moveTo}
 use Rattle.surfaces.specs.declared.Surfaces.{Surfaces}
 use Rattle.vector.specs.Vector.{vecInside}
@@ -33,6 +34,14 @@ spunOf a f commands h = spinOf (motorsFor a f) commands (lagFactor (a .motors) h
 unfoldable pub movedOf : Airframe → Flight → List Float → Float → Surfaces
 movedOf a f commands h = moveTo (surfacesFor a f) commands (factorOf h (a .model .«servo_time_constant_s»))
 
+-- each lift rotor follows the motor command of its slot; without lift numbers none moves (02, 5)
+unfoldable pub liftSpun : Airframe → Flight → List Float → Float → List Float
+liftSpun a f commands factor =
+    cond (a .«lift_present») (rotorsSpun (a .lift) (f .«lift_motors») commands factor) (f .«lift_motors»)
+
+unfoldable pub liftedOf : Airframe → Flight → List Float → Float → List Float
+liftedOf a f commands h = liftSpun a f commands (lagFactor (a .lift .motors) h)
+
 -- density 1.225
 abbrev pub airDensity : Float
 airDensity = rounded 1225 1000
@@ -41,24 +50,26 @@ airDensity = rounded 1225 1000
 unfoldable pub massOf : FixedWingModel → MassProperties
 massOf m = record { «mass_kg» = m .«mass_kg»; «inertia_kgm2» = m .«inertia_kgm2» }
 
-unfoldable pub steppedOf : FixedWingModel → Flight → List Float → List Float → Loaded → Float → Ticked
-steppedOf m f motors servos l h = record {
+unfoldable pub steppedOf : FixedWingModel → Flight → List Float → List Float → List Float → Loaded → Float → Ticked
+steppedOf m f motors servos lifting l h = record {
   report = record { answer = Done; «alpha_rad» = l .«alpha_rad»; «beta_rad» = l .«beta_rad»; «thrust_n» = l .«thrust_n» };
   flight = record {
     body = stepOf (f .body) (massOf m) (l .loads) h;
     motors = motors;
     servos = servos;
     «thrust_scale» = f .«thrust_scale»;
+    «lift_motors» = lifting;
   };
 }
 
-unfoldable pub nextFrom : Airframe → Flight → Motors → Surfaces → Vec3 → Float → Ticked
-nextFrom a f motors surfaces wind h =
-    steppedOf (a .model) f (motors .running) (surfaces .running) (loadsOf a motors surfaces (f .body) wind airDensity) h
+unfoldable pub nextFrom : Airframe → Flight → Motors → Surfaces → List Float → Vec3 → Float → Ticked
+nextFrom a f motors surfaces lifting wind h =
+    steppedOf (a .model) f (motors .running) (surfaces .running) lifting (loadsOf a motors surfaces lifting (f .body) wind airDensity) h
 
 unfoldable pub nextOf : Airframe → Flight → Tick → Ticked
 nextOf a f t =
-    nextFrom a f (spunOf a f (t .motors) (t .«step_s»)) (movedOf a f (t .servos) (t .«step_s»)) (t .«wind_ned_mps») (t .«step_s»)
+    let h = t .«step_s» in
+    nextFrom a f (spunOf a f (t .motors) h) (movedOf a f (t .servos) h) (liftedOf a f (t .motors) h) (t .«wind_ned_mps») h
 
 -- a refusal: the given state again, and a report of zeros
 unfoldable pub refusedOf : Answer → Flight → Ticked

@@ -1,5 +1,5 @@
-// 01, module 8: the tick. Lags, thrust, wash, aerodynamics and the body's step, with the tests 6 to 10 around them. `powers` is
-// libm's table of powers of two, made once a tick or once a run.
+// 01, module 8: the tick. Lags, thrust, wash, aerodynamics, lift rotors and the body's step, with the tests 6 to 10 around them.
+// `powers` is libm's table of powers of two, made once a tick or once a run.
 ghost use mathlib.Core.Bool.{true};
 ghost use mathlib.Core.Path.{_≡_};
 ghost use Rattle.airframe.specs.Acceptance.{refusedPlace};
@@ -13,6 +13,7 @@ use answers::Answer;
 use body::Body;
 use body::Loads;
 use body::MassProperties;
+use body::Wrench;
 use fixed_wing::FixedWingModel;
 use flight::Flight;
 use flight::Tick;
@@ -52,6 +53,8 @@ pub struct LagFactors {
     pub step_bits: u32,
     pub motor: f32,
     pub servo: f32,
+    // The lift rotors'; 0 without lift numbers, whose lag constant is not tested.
+    pub lift: f32,
 }
 
 // One tick from `f`: refused with 6, 7, 8, 10 or 9, in this order, it hands back `f`.
@@ -147,7 +150,20 @@ pub fn begin(a: Airframe, step_s: f32, powers: &[f32; POWER_COUNT]) -> LagFactor
         step_bits: float::to_bits(step_s),
         motor: motors.lag_factor(step_s, powers),
         servo: lag::factor(step_s, m.servo_time_constant_s, powers),
+        lift: lift_factor(a, step_s, powers),
     }
+}
+
+fn lift_factor(a: Airframe, step_s: f32, powers: &[f32; POWER_COUNT]) -> f32
+    requires { ⌜ now powers ≡ powersOfTwo ⌝ }
+    ensures { λ r. ⌜ r ≡ Contracts.liftFactor a «step_s» ⌝ }
+{
+    if a.lift_present {
+        let lift = a.lift;
+        let motors = lift.motors;
+        return motors.lag_factor(step_s, powers);
+    }
+    0.0
 }
 
 // The lag factors of a step, `held` being those of the last one: a step with the same bits has the same.
@@ -181,10 +197,12 @@ fn next_with(
     let servo_commands = t.servos;
     let motors = motors_of(a, f).spin(commands, lags.motor);
     let surfaces = surfaces_of(a, f).move_to(servo_commands, lags.servo);
+    let lifting = lift_spun(a, f, commands, lags.lift);
     let loaded = loads(
         a,
         motors,
         surfaces,
+        lifting,
         f.body,
         t.wind_ned_mps,
         AIR_DENSITY_KGPM3,
@@ -192,7 +210,20 @@ fn next_with(
     );
     let running = motors.running;
     let positions = surfaces.running;
-    stepped(a.model, f, running, positions, loaded, t.step_s)
+    stepped(a.model, f, running, positions, lifting, loaded, t.step_s)
+}
+
+// The lift rotors' running values after a step of their lag: each follows the motor command of its slot. Without lift numbers they
+// are as they were.
+fn lift_spun(a: Airframe, f: Flight, commands: [f32; 8], factor: f32) -> [f32; 8]
+    ensures { λ r. ⌜ r ≡ TickOf.liftSpun a f commands factor ⌝ }
+{
+    let running = f.lift_motors;
+    if a.lift_present {
+        let lift = a.lift;
+        return lift.spun(running, commands, factor);
+    }
+    running
 }
 
 // The airframe's motors at the state's running values and thrust scales.
@@ -218,18 +249,19 @@ fn surfaces_of(a: Airframe, f: Flight) -> Surfaces
     Surfaces { weights, running }
 }
 
-// The loads from the running values alone, in air of `density_kgpm3`.
+// The loads from the running values alone, in air of `density_kgpm3`; `lifting` are the lift rotors'.
 pub fn loads(
     a: Airframe,
     motors: Motors,
     surfaces: Surfaces,
+    lifting: [f32; 8],
     body: Body,
     wind_ned_mps: Vec3,
     density_kgpm3: f32,
     powers: &[f32; POWER_COUNT],
 ) -> Loaded
     requires { ⌜ now powers ≡ powersOfTwo ⌝ }
-    ensures { λ r. ⌜ r ≡ LoadsOf.loadsOf a motors surfaces body «wind_ned_mps» «density_kgpm3» ⌝ }
+    ensures { λ r. ⌜ r ≡ LoadsOf.loadsOf a motors surfaces lifting body «wind_ned_mps» «density_kgpm3» ⌝ }
 {
     let m = a.model;
     let attitude = body.attitude;
@@ -249,7 +281,9 @@ pub fn loads(
         density_kgpm3,
         powers,
     );
-    with_thrust(m, attitude, pull, aero)
+    let thrusting = with_thrust(m, pull, aero);
+    let total = with_lift(a, lifting, air_mps, thrusting, powers);
+    loaded_by(attitude, total, aero, pull.thrust_n)
 }
 
 // All zeros where the airframe has no wash.
@@ -263,20 +297,47 @@ fn wash_of(a: Airframe, thrust_n: f32, axial_mps: f32, density_kgpm3: f32) -> Wa
     tailsitter_model::no_wash()
 }
 
-// Adds the thrust along body x, and its pitch torque by how far its line lies below the centre of gravity.
-fn with_thrust(
-    m: FixedWingModel,
-    attitude: vector::Quaternion,
-    pull: motors::MotorWrench,
-    aero: aero::Aero,
-) -> Loaded
-    ensures { λ r. ⌜ r ≡ LoadsOf.withThrust m attitude pull aero ⌝ }
+// Aerodynamics, the thrust along body x, and its pitch torque by how far its line lies below the centre of gravity.
+fn with_thrust(m: FixedWingModel, pull: motors::MotorWrench, aero: aero::Aero) -> Wrench
+    ensures { λ r. ⌜ r ≡ LoadsOf.withThrust m pull aero ⌝ }
 {
     let force = aero.force_n;
     let torque = aero.torque_nm;
     let thrust_line_nm = Vec3::new(0.0, pull.thrust_n * m.thrust_line_below_cg_m, 0.0);
-    let force_ned_n = attitude.transform_vector(force.add(Vec3::new(pull.thrust_n, 0.0, 0.0)));
+    let force_n = force.add(Vec3::new(pull.thrust_n, 0.0, 0.0));
     let torque_nm = torque.add(pull.torque_nm).add(thrust_line_nm);
+    Wrench { force_n, torque_nm }
+}
+
+// Adds what the lift rotors do at their running values; without lift numbers that is nothing.
+fn with_lift(
+    a: Airframe,
+    lifting: [f32; 8],
+    air_mps: Vec3,
+    wrench: Wrench,
+    powers: &[f32; POWER_COUNT],
+) -> Wrench
+    requires { ⌜ now powers ≡ powersOfTwo ⌝ }
+    ensures { λ r. ⌜ r ≡ LoadsOf.withLift a lifting «air_mps» wrench ⌝ }
+{
+    if a.lift_present {
+        let lift = a.lift;
+        return wrench.add(lift.wrench(lifting, air_mps, powers));
+    }
+    wrench
+}
+
+// The force on NED axes, and what is reported: the thrust is that of the motors along body x alone.
+fn loaded_by(
+    attitude: vector::Quaternion,
+    wrench: Wrench,
+    aero: aero::Aero,
+    thrust_n: f32,
+) -> Loaded
+    ensures { λ r. ⌜ r ≡ LoadsOf.loadedBy attitude wrench aero «thrust_n» ⌝ }
+{
+    let force_ned_n = attitude.transform_vector(wrench.force_n);
+    let torque_nm = wrench.torque_nm;
     let damping_nm = Vec3::zeros();
     let loads = Loads {
         force_ned_n,
@@ -287,7 +348,7 @@ fn with_thrust(
         loads,
         alpha_rad: aero.alpha_rad,
         beta_rad: aero.beta_rad,
-        thrust_n: pull.thrust_n,
+        thrust_n,
     }
 }
 
@@ -297,10 +358,11 @@ fn stepped(
     f: Flight,
     motors: [f32; 8],
     servos: [f32; 8],
+    lift_motors: [f32; 8],
     loaded: Loaded,
     step_s: f32,
 ) -> Ticked
-    ensures { λ r. ⌜ r ≡ TickOf.steppedOf m f motors servos loaded «step_s» ⌝ }
+    ensures { λ r. ⌜ r ≡ TickOf.steppedOf m f motors servos «lift_motors» loaded «step_s» ⌝ }
 {
     let inertia_kgm2 = m.inertia_kgm2;
     let mass = MassProperties {
@@ -315,6 +377,7 @@ fn stepped(
         motors,
         servos,
         thrust_scale: scales,
+        lift_motors,
     };
     let answer = Answer::Done;
     let report = Report {

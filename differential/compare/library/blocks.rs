@@ -2,7 +2,7 @@
 //! those not written.
 
 use bench::raw;
-use oracle::blocks::{Airframe, STATE_BYTES, STATE_NUMBERS, State, TICK_BYTES, TICK_NUMBERS, UNSCALED_BYTES};
+use oracle::blocks::{Airframe, NO_LIFT_BYTES, STATE_BYTES, STATE_NUMBERS, State, TICK_BYTES, TICK_NUMBERS, UNSCALED_BYTES};
 use oracle::blocks::{read_airframe, read_state, read_tick, write_state, write_tick};
 use oracle::rows::{AIRFRAME_ROW, StateRow, TickRow, airframe_row, state_of, state_row, tick_of, tick_row};
 
@@ -79,19 +79,21 @@ fn short(block: &[u8]) -> &[u8] {
     &block[..block.len().saturating_sub(1)]
 }
 
-/// The state block without its thrust scales.
-fn unscaled(state: &[u8]) -> &[u8] {
-    &state[..UNSCALED_BYTES.min(state.len())]
+/// The state block's first bytes, as older ones have them.
+fn older(state: &[u8], bytes: usize) -> &[u8] {
+    &state[..bytes.min(state.len())]
 }
 
 /// Whether a call differs on the input's own blocks, on all its bytes as one block, on a block one
-/// byte short, or on its state's block without thrust scales.
+/// byte short, or on its state's block without lift running values, and without thrust scales too.
 pub fn differ(bytes: &[u8], figures: &mut Figures) -> bool {
     let input = Input::of(bytes);
     let airframes = [input.airframe, short(input.airframe), bytes];
-    let older = unscaled(input.state);
-    let states = [input.state, short(input.state), older, short(older), bytes];
-    let lengths = [STATE_BYTES, UNSCALED_BYTES, input.state.len(), bytes.len()];
+    let [unlifted, unscaled] = [NO_LIFT_BYTES, UNSCALED_BYTES].map(|bytes| older(input.state, bytes));
+    let whole = [input.state, unlifted, unscaled, bytes];
+    let cut = [input.state, unlifted, unscaled].map(short);
+    let states = [&whole[..], &cut].concat();
+    let lengths = [STATE_BYTES, NO_LIFT_BYTES, UNSCALED_BYTES, input.state.len(), bytes.len()];
     figures.blocks += (airframes.len() + states.len() + lengths.len()) as u64;
     airframes.iter().any(|block| airframe_differs(block))
         || states.iter().any(|block| state_differs(block))

@@ -1,6 +1,6 @@
 //! What the library's comparison counts.
 
-use oracle::blocks::{SLOTS, State};
+use oracle::blocks::{Airframe, SLOTS, State};
 use oracle::limits;
 use oracle::rows::TickRow;
 use oracle::tick::Report;
@@ -34,6 +34,17 @@ pub struct Figures {
     /// them have a motor that runs and whose share is 0.
     pub off_square: [u64; 11],
     pub faint: u64,
+    /// How many of those of an airframe with lift numbers did; and how many of the accepted among them
+    /// have a lift rotor that runs, a slot that drives a motor of either group, and a lift exponent
+    /// that is not 2.
+    pub lifted: [u64; 11],
+    pub lifting: u64,
+    pub shared: u64,
+    pub lift_off_square: u64,
+    /// How many of those without lift numbers did, from a state with a lift running value that is not
+    /// 0, all of them within their limits; and of those from one beyond its limits.
+    pub idle: [u64; 11],
+    pub out_of_lift: [u64; 11],
     pub runs: u64,
     pub run_ticks: u64,
     pub pairs: u64,
@@ -47,9 +58,15 @@ impl Figures {
         self.flights + self.damaged + self.hand_made
     }
 
-    /// Counts a tick of an airframe with this exponent, which hands back `next`: there its thrust scales
+    /// Counts a tick of an airframe, where it was read, which hands back `next`: there its thrust scales
     /// are, and the running values that its thrust is by.
-    pub fn ticked(&mut self, report: &Report, exponent: f32, next: &State, tick: &TickRow) {
+    pub fn ticked(
+        &mut self,
+        report: &Report,
+        airframe: Option<&Airframe>,
+        next: &State,
+        tick: &TickRow,
+    ) {
         let answer = usize::from(report.answer);
         let wind = [tick[1], tick[2], tick[3]];
         self.ticks += 1;
@@ -60,10 +77,36 @@ impl Figures {
             self.in_strong[answer] += 1;
         }
         self.scaled(answer, &next.thrust_scale);
+        if let Some(airframe) = airframe {
+            self.powered(answer, airframe.at(36), next);
+            self.lift(answer, airframe, next);
+        }
+    }
+
+    fn powered(&mut self, answer: usize, exponent: f32, next: &State) {
         if exponent != 2.0 {
             self.off_square[answer] += 1;
             let faint = |v: &f32| *v > 0.0 && libm::powf(*v, exponent) == 0.0;
             self.faint += u64::from(answer == 0 && next.motors.iter().any(faint));
+        }
+    }
+
+    fn lift(&mut self, answer: usize, airframe: &Airframe, next: &State) {
+        let values = next.lift_motors;
+        if !values.iter().all(|x| limits::within(*x, limits::MOTOR)) {
+            self.out_of_lift[answer] += 1;
+        } else if airframe.lift.is_none() && values.iter().any(|x| *x != 0.0) {
+            self.idle[answer] += 1;
+        }
+        let Some(numbers) = airframe.lift else {
+            return;
+        };
+        self.lifted[answer] += 1;
+        if answer == 0 {
+            let mut slots = airframe.used.iter().zip(airframe.lift_used);
+            self.lifting += u64::from(values.iter().any(|x| *x > 0.0));
+            self.shared += u64::from(slots.any(|(forward, lift)| *forward && lift));
+            self.lift_off_square += u64::from(numbers[1] != 2.0);
         }
     }
 
@@ -108,6 +151,20 @@ impl Figures {
              and has a share of 0, {}",
             by_number(&self.off_square, 0),
             self.faint
+        );
+        println!(
+            "library: with lift numbers, by number {}; accepted with a lift rotor that runs, {}, with a \
+             slot that drives both groups, {}, with a lift exponent that is not 2, {}",
+            by_number(&self.lifted, 0),
+            self.lifting,
+            self.shared,
+            self.lift_off_square
+        );
+        println!(
+            "library: without lift numbers and with a lift running value that is not 0, by number {}; with \
+             one beyond its limits, {}",
+            by_number(&self.idle, 0),
+            by_number(&self.out_of_lift, 0)
         );
         println!(
             "library: {} runs and {} mirrored pairs of {} ticks, {} blocks, {} rows of another length",

@@ -1,5 +1,5 @@
-//! Airframes made by hand: rows of 106 numbers that no block gives, for the prepared tick. A case is
-//! 163 numbers: the airframe's, the state's and the tick's.
+//! Airframes made by hand: rows of 145 numbers that no block gives, for the prepared tick. A case is
+//! 210 numbers: the airframe's, the state's and the tick's.
 
 use std::fs;
 use std::io;
@@ -7,11 +7,13 @@ use std::path::{Path, PathBuf};
 
 use bench::raw;
 use oracle::arguments::SPECIAL;
-use oracle::blocks::{SLOTS, STATE_NUMBERS, TICK_NUMBERS, read_airframe};
+use oracle::blocks::{LIFT_PLACE, SLOTS, STATE_NUMBERS, TICK_NUMBERS, read_airframe};
 use oracle::inputs;
 use oracle::limits::{self, Range};
 use oracle::rng::Rng;
-use oracle::rows::{AIRFRAME_ROW, SCALES_AT, StateRow};
+use oracle::rows::{AIRFRAME_ROW, LIFT_MOTORS_AT, SCALES_AT, StateRow};
+use oracle::rows::{FALLOFF_AT, LIFT_AT, LIFT_FLAG_AT, LIFT_TORQUES_AT, LIFT_USED_AT};
+use oracle::rows::{TORQUES_AT, USED_AT, WEIGHTS_AT};
 use oracle::rows::{airframe_of, airframe_row, state_of, state_row, tick_of};
 use oracle::tick::{Report, tick};
 use oracle::words::case;
@@ -24,8 +26,6 @@ const STATE_AT: usize = AIRFRAME_ROW;
 const TICK_AT: usize = STATE_AT + STATE_NUMBERS;
 const NUMBERS: usize = TICK_AT + TICK_NUMBERS;
 const TICKS: usize = 8;
-/// Where the thrust exponent stands in the airframe's numbers, place 36.
-const EXPONENT_AT: usize = 35;
 
 type Case = [f32; NUMBERS];
 
@@ -43,7 +43,7 @@ fn expected(case: &Case) -> (Report, StateRow) {
 }
 
 fn differs(case: &Case, report: &Report, next: &StateRow) -> bool {
-    let mut side = Side::new(part(case, STATE_AT));
+    let mut side = Side::new(part(case, STATE_AT), is_set(case[LIFT_FLAG_AT]));
     side.call(|state, report| {
         raw::tick_prepared(&case[..STATE_AT], state, &case[TICK_AT..], report)
     });
@@ -62,26 +62,56 @@ fn near(rng: &mut Rng, (low, high): Range) -> f32 {
     }
 }
 
+/// A flag of a row: either zero is no, every other number and NaN is yes.
+fn is_set(number: f32) -> bool {
+    number != 0.0
+}
+
 /// Changes one number of an airframe's row.
 fn change(rng: &mut Rng, row: &mut [f32]) {
-    let pitch_speed = row[48] != 0.0;
+    let pitch_speed = is_set(row[FALLOFF_AT]);
     let at = rng.below(STATE_AT);
     row[at] = match at {
-        0..48 => near(rng, limits::airframe(at + 1, pitch_speed)),
-        48..58 => rng.pick(&[0.0, -0.0, 1.0, f32::NAN, -2.0, 1.0e-45]),
-        58..82 => near(rng, limits::TORQUE),
-        _ => near(rng, limits::WEIGHT),
+        ..FALLOFF_AT => near(rng, limits::airframe(at + 1, pitch_speed)),
+        ..TORQUES_AT | LIFT_FLAG_AT..LIFT_TORQUES_AT => {
+            rng.pick(&[0.0, -0.0, 1.0, f32::NAN, -2.0, 1.0e-45])
+        }
+        ..WEIGHTS_AT => near(rng, limits::TORQUE),
+        ..LIFT_AT => near(rng, limits::WEIGHT),
+        ..LIFT_FLAG_AT => near(
+            rng,
+            limits::airframe(LIFT_PLACE + at - LIFT_AT, pitch_speed),
+        ),
+        _ => near(rng, limits::TORQUE),
     };
 }
 
 /// Torques and weights that no rows give.
 fn skew(rng: &mut Rng, row: &mut [f32]) {
-    for number in &mut row[50..58] {
-        *number = rng.pick(&[0.0, 1.0]);
+    for at in [USED_AT, LIFT_USED_AT] {
+        for number in &mut row[at..at + SLOTS] {
+            *number = rng.pick(&[0.0, 1.0]);
+        }
     }
-    for number in &mut row[58..STATE_AT] {
-        *number = rng.between(-2.0, 2.0);
+    for (from, to) in [(TORQUES_AT, LIFT_AT), (LIFT_TORQUES_AT, STATE_AT)] {
+        for number in &mut row[from..to] {
+            *number = rng.between(-2.0, 2.0);
+        }
     }
+}
+
+/// Takes the lift flag away and leaves the rest, of which a number or a torque is then none at all; or
+/// sets the flag over what was there without it.
+fn unflag(rng: &mut Rng, row: &mut [f32]) {
+    if !is_set(row[LIFT_FLAG_AT]) {
+        row[LIFT_FLAG_AT] = rng.pick(&[1.0, f32::NAN, -1.0]);
+        return;
+    }
+    row[LIFT_FLAG_AT] = rng.pick(&[0.0, -0.0]);
+    let any = LIFT_USED_AT + rng.below(STATE_AT - LIFT_USED_AT);
+    let number = LIFT_AT + rng.below(LIFT_FLAG_AT - LIFT_AT);
+    row[any] = rng.pick(&[f32::NAN, 101.0, f32::INFINITY]);
+    row[number] = rng.pick(&[-0.001, f32::NAN, 1.0e30]);
 }
 
 fn airframe(rng: &mut Rng, row: &mut [f32]) {
@@ -91,6 +121,9 @@ fn airframe(rng: &mut Rng, row: &mut [f32]) {
     }
     if rng.once_in(2) {
         skew(rng, row);
+    }
+    if rng.once_in(6) {
+        unflag(rng, row);
     }
     for _ in 0..rng.below(4) {
         change(rng, row);
@@ -104,6 +137,9 @@ fn state(rng: &mut Rng, row: &mut [f32]) {
     }
     if rng.once_in(8) {
         row[SCALES_AT + rng.below(SLOTS)] = near(rng, limits::SCALE);
+    }
+    if rng.once_in(8) {
+        row[LIFT_MOTORS_AT + rng.below(SLOTS)] = near(rng, limits::MOTOR);
     }
 }
 
@@ -121,8 +157,9 @@ pub fn differing(seed: u64, figures: &mut Figures) -> Option<Vec<f32>> {
     for _ in 0..TICKS {
         next_tick(rng, &mut case[TICK_AT..]);
         let (report, next) = expected(&case);
-        let (exponent, next_state) = (case[EXPONENT_AT], state_of(&next));
-        figures.ticked(&report, exponent, &next_state, &part(&case, TICK_AT));
+        let (airframe, next_state) = (airframe_of(&part(&case, 0)), state_of(&next));
+        let tick = part(&case, TICK_AT);
+        figures.ticked(&report, Some(&airframe), &next_state, &tick);
         if differs(&case, &report, &next) {
             return Some(case.to_vec());
         }

@@ -9,14 +9,15 @@ use super::figures::Figures;
 use super::input::Input;
 use super::rows::same_bits;
 
-/// A row's right length or, where `wrong`, any other up to 130; a state without its thrust scales is
-/// eight numbers short.
+/// A row's right length or, where `wrong`, any other up to 170; a state without its lift running values
+/// is eight numbers short, one without thrust scales sixteen, an airframe without lift rotors 39.
 fn length(rng: &mut Rng, right: usize, wrong: bool) -> usize {
     if !wrong {
         return right;
     }
-    let any = rng.below(130);
-    let other = rng.pick(&[0, right - 1, right + 1, right.saturating_sub(SLOTS), any]);
+    let any = rng.below(170);
+    let short = rng.pick(&[1, SLOTS, 2 * SLOTS, 39]);
+    let other = rng.pick(&[0, right + 1, right.saturating_sub(short), any]);
     if other == right { right + 1 } else { other }
 }
 

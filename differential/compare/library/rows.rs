@@ -1,7 +1,7 @@
 //! Rows compared: as numbers where they were computed, by their bits where they must be as found.
 
 use oracle::blocks::Refusal;
-use oracle::rows::SCALES_AT;
+use oracle::rows::{LIFT_MOTORS_AT, SCALES_AT};
 use oracle::words::same;
 
 pub fn same_numbers(a: &[f32], b: &[f32]) -> bool {
@@ -22,9 +22,11 @@ pub fn kept_or(accepted: bool, row: &[f32], found: &[f32], computed: &[f32]) -> 
     }
 }
 
-/// Whether the thrust scales of a state's row are those of another, by their bits but for a NaN's.
-pub fn same_scales(row: &[f32], start: &[f32]) -> bool {
-    let mut pairs = row[SCALES_AT..].iter().zip(&start[SCALES_AT..]);
+/// Whether what no tick changes in a state's row is that of another, by the bits but for a NaN's: the
+/// thrust scales and, where there are no lift numbers, the lift running values.
+pub fn same_kept(row: &[f32], start: &[f32], lifted: bool) -> bool {
+    let end = if lifted { LIFT_MOTORS_AT } else { row.len() };
+    let mut pairs = row[SCALES_AT..end].iter().zip(&start[SCALES_AT..end]);
     pairs.all(|(x, y)| x.to_bits() == y.to_bits() || (x.is_nan() && y.is_nan()))
 }
 

@@ -9,7 +9,7 @@ use oracle::tick::run;
 
 use super::figures::Figures;
 use super::input::Input;
-use super::rows::{kept_or, reply, reply_to, same_scales};
+use super::rows::{kept_or, reply, reply_to, same_kept};
 use super::ticks::Flown;
 
 /// What a count holds before a call.
@@ -91,11 +91,16 @@ fn expected_reflection(input: &Input) -> Ran {
     }
 }
 
+/// Whether the run's lift rotors can change.
+fn lifted(input: &Input) -> bool {
+    accepted(input).is_ok_and(|airframe| airframe.lift.is_some())
+}
+
 fn run_differs(input: &Input, ran: &Ran) -> bool {
     let found = input.start_row();
     let (mut state, mut accepted) = (found, UNWRITTEN);
     let reply = raw::run(input.airframe, &mut state, input.trace, &mut accepted);
-    !ran.is(reply, &state, &found, accepted) || !same_scales(&state, &found)
+    !ran.is(reply, &state, &found, accepted) || !same_kept(&state, &found, lifted(input))
 }
 
 fn pair_differs(input: &Input, ran: &Ran) -> bool {
@@ -112,14 +117,16 @@ fn pair_differs(input: &Input, ran: &Ran) -> bool {
         &mut counts,
     );
     let second = expected_reflection(input);
-    // Both runs leave the scales, and the reflection starts with those of the state.
-    let scales = [
+    // Both runs leave what no tick changes, and the reflection starts with the state's.
+    let kept = [
         (&state, &found),
         (&reflected, if reply == 0 { &found } else { &other }),
     ];
+    let lifted = lifted(input);
+    let mut kept = kept.iter();
     !ran.is(reply, &state, &found, counts[0])
         || !second.is(reply, &reflected, &other, counts[1])
-        || !scales.iter().all(|(row, start)| same_scales(*row, *start))
+        || !kept.all(|(row, start)| same_kept(*row, *start, lifted))
 }
 
 /// The input's state with two faults at once: a refused block, and a trace a byte short.

@@ -8,7 +8,7 @@ use oracle::tick::{Report, tick};
 
 use super::figures::Figures;
 use super::input::Input;
-use super::rows::{kept_or, reply, same_numbers, same_scales};
+use super::rows::{kept_or, reply, same_kept, same_numbers};
 
 /// What a report's row holds before a call.
 const UNWRITTEN: f32 = 12345.0;
@@ -20,8 +20,9 @@ const CALM: TickRow = {
     row
 };
 
-/// One side's state in the library, and what its last call gave.
+/// One side's state in the library, what its last call gave, and whether its airframe has lift numbers.
 pub struct Side {
+    lifted: bool,
     state: StateRow,
     found: StateRow,
     report: [f32; REPORT_ROW],
@@ -29,8 +30,9 @@ pub struct Side {
 }
 
 impl Side {
-    pub fn new(state: StateRow) -> Self {
+    pub fn new(state: StateRow, lifted: bool) -> Self {
         Side {
+            lifted,
             state,
             found: state,
             report: [UNWRITTEN; REPORT_ROW],
@@ -51,7 +53,7 @@ impl Side {
         self.reply == reply(report.answer, report.place)
             && same_numbers(&self.report, &told)
             && kept_or(report.answer == 0, &self.state, &self.found, next)
-            && same_scales(&self.state, &self.found)
+            && same_kept(&self.state, &self.found, self.lifted)
     }
 }
 
@@ -89,16 +91,16 @@ pub fn fly(input: &Input, figures: &mut Figures) -> Option<Flown> {
     let mut prepared = [0.0; AIRFRAME_ROW];
     raw::prepare(input.airframe, &mut prepared);
     let (mut state, mut accepted) = (input.start(), 0);
-    let mut by_block = Side::new(input.start_row());
-    let mut by_row = Side::new(input.start_row());
+    let lifted = read.as_ref().is_ok_and(|airframe| airframe.lift.is_some());
+    let mut by_block = Side::new(input.start_row(), lifted);
+    let mut by_row = Side::new(input.start_row(), lifted);
     let one_more = read.is_err().then_some(CALM);
-    let exponent = read.as_ref().map_or(2.0, |airframe| airframe.at(36));
     for row in input.ticks().chain(one_more) {
         let one = expected(&read, &state, &row);
         let other = expected_prepared(&read, &one, &state, &row);
         by_block.call(|state, report| raw::tick(input.airframe, state, &row, report));
         by_row.call(|state, report| raw::tick_prepared(&prepared, state, &row, report));
-        figures.ticked(&one.0, exponent, &one.1, &row);
+        figures.ticked(&one.0, read.as_ref().ok(), &one.1, &row);
         let next = state_row(&one.1);
         if !by_block.gave(&one.0, &next) || !by_row.gave(&other.0, &next) {
             return None;

@@ -2,9 +2,9 @@
 //! header bit, each length around each boundary.
 
 use crate::arguments::{EXPONENTS, TURNING};
-use crate::blocks::{SLOTS, STATE_NUMBERS, State, TICK_NUMBERS};
-use crate::hand;
-use crate::inputs::{AirframeBlock, Row, push, state_bytes};
+use crate::blocks::{LIFT_NUMBERS, SLOTS, STATE_NUMBERS, State, TICK_NUMBERS};
+use crate::hand::{self, lift::ROTORS};
+use crate::inputs::{AirframeBlock, Row, lift, motor, push, servo, state_bytes};
 use crate::limits::{self, Range};
 
 /// All of them.
@@ -25,19 +25,26 @@ pub fn all() -> Vec<Vec<u8>> {
         vec![lopsided()],
         exponents(),
         faint(),
+        refused_lifting(),
+        vec![hand::lift::rise()],
+        lifts(),
+        dragged(),
+        both_groups(),
+        idle(),
+        all_together(),
     ]
     .concat()
 }
 
-/// The fall of two ticks in a wind of NaN; the one in a wind that goes down with it, whole, with a
-/// state of 116 bytes, cut at every boundary, where a state of 116 bytes would end too, and one byte
-/// past it.
+/// The fall of two ticks in a wind of NaN; the one in a wind that goes down with it, whole, with states
+/// of 148 and 116 bytes, cut at every boundary, where such states would end too, and one byte past it.
 fn hand_made() -> Vec<Vec<u8>> {
     let fall = hand::fall();
     let boundaries = [
-        0, 1, 2, 3, 165, 166, 167, 281, 282, 283, 313, 314, 315, 393, 394, 395, 473,
+        0, 1, 2, 3, 165, 166, 167, 281, 282, 283, 313, 314, 315, 345, 346, 347, 425, 426, 427, 505,
     ];
-    let mut all = vec![hand::fall_in_nan(), fall.clone(), hand::older_fall()];
+    let mut all = vec![hand::fall_in_nan(), fall.clone()];
+    all.extend(hand::older_falls());
     all.extend(boundaries.map(|end| fall[..end].to_vec()));
     all.push([&fall[..], &[0]].concat());
     all
@@ -50,37 +57,48 @@ fn headers() -> Vec<Vec<u8>> {
         .filter(|version| *version != 1)
         .map(|v| v << 12)
         .collect();
-    all.extend([0x1800, 0x1C00, 0x1A00, 0x1100, 0x1080, 0x1040, 0x1020]);
+    all.extend([0x1800, 0x1C00, 0x1A00, 0x1080, 0x1040, 0x1020]);
     all.extend((17..32).map(|rows| 0x1000 | rows));
     // Two at once: the earlier one answers.
-    all.extend([0x2C00, 0x1D00, 0x1111, 0x0FFF]);
+    all.extend([0x2C00, 0x1D00, 0x1031, 0x0FFF]);
+    // Lift numbers are announced: the same after them.
+    all.extend([
+        0x2100, 0x1900, 0x1180, 0x1140, 0x1120, 0x1131, 0x1111, 0x1100,
+    ]);
     all.into_iter()
         .map(|bits| bits.to_be_bytes().to_vec())
         .collect()
 }
 
-/// One bad row bit of each kind, in the first or the second row, over a number out of range.
+/// One row bit of each kind, in the first or the second row, over a number out of range: a servo's row
+/// and a motor's, with lift numbers and without. The bit of a lift rotor is good on a motor's row with
+/// lift numbers, and the number answers.
 fn row_bits() -> Vec<Vec<u8>> {
-    let mut block = with_wash();
-    block.numbers[0] = f32::NAN;
-    block.rows = vec![row([0.0; 3]); 2];
-    let bytes = block.bytes();
     let mut all = Vec::new();
-    for bit in 0..4 {
-        let mut bad = bytes.clone();
-        bad[194 + 13 * (bit % 2)] |= 1 << bit;
-        all.push(bad);
+    for row in [servo(5, [0.0; 3]), motor(5, [0.0; 3])] {
+        for lift in [None, Some(ROTORS)] {
+            let block = AirframeBlock {
+                lift,
+                rows: vec![row; 2],
+                ..with_wash()
+            };
+            all.extend((0..4).map(|bit| with_row_bit(block.clone(), bit)));
+        }
     }
-    all.push(bytes);
     all
 }
 
+/// The block with a bit of its first row set, or of its second, and a mass of NaN.
+fn with_row_bit(mut block: AirframeBlock, bit: usize) -> Vec<u8> {
+    block.numbers[0] = f32::NAN;
+    let mut bytes = block.bytes();
+    let at = bytes.len() - 13 * (2 - bit % 2);
+    bytes[at] |= 1 << bit;
+    bytes
+}
+
 fn row(factors: [f32; 3]) -> Row {
-    Row {
-        servo: true,
-        slot: 5,
-        factors,
-    }
+    servo(5, factors)
 }
 
 fn with_wash() -> AirframeBlock {
@@ -90,25 +108,27 @@ fn with_wash() -> AirframeBlock {
     }
 }
 
-fn set(block: &mut AirframeBlock, place: usize, number: f32) {
-    match &mut block.wash {
-        Some(wash) if place >= 42 => wash[place - 42] = number,
-        _ => block.numbers[place - 1] = number,
-    }
+/// The places of an airframe's numbers in a block.
+fn places() -> impl Iterator<Item = usize> {
+    (1..=48).chain(52..=57)
 }
 
-/// All numbers at their lower or their upper limits, for both falloffs, and a tick at rest.
+/// All numbers at their lower or their upper limits, for both falloffs, and a tick at rest with lift
+/// rotors that run.
 fn airframes_at_limits() -> Vec<Vec<u8>> {
     let mut all = Vec::new();
     for pitch_speed in [false, true] {
         for upper in [false, true] {
             let mut block = with_wash();
             block.pitch_speed = pitch_speed;
-            for place in 1..=48 {
+            block.lift = Some([0.0; LIFT_NUMBERS]);
+            for place in places() {
                 let (low, high) = limits::airframe(place, pitch_speed);
-                set(&mut block, place, if upper { high } else { low });
+                block.set(place, if upper { high } else { low });
             }
-            all.push(with_tick(&block, &hand::at_rest(), 0.01));
+            let mut state = hand::at_rest();
+            state.lift_motors[0] = 0.5;
+            all.push(with_tick(&block, &state, 0.01));
         }
     }
     all
@@ -118,17 +138,21 @@ fn airframes_at_limits() -> Vec<Vec<u8>> {
 /// refusal is answered first.
 fn airframes_outside() -> Vec<Vec<u8>> {
     let mut all = Vec::new();
-    for place in 1..=48 {
+    for place in places() {
         for bad in outside(limits::airframe(place, false)) {
-            let mut block = if place < 42 {
-                hand::plain()
-            } else {
-                with_wash()
+            let mut block = match place {
+                ..42 => hand::plain(),
+                ..52 => with_wash(),
+                _ => hand::lift::lifted(ROTORS, &[lift(2, [1.0; 3])]),
             };
-            set(&mut block, place, bad);
+            block.set(place, bad);
             all.push(block.bytes());
         }
     }
+    // A row's factor answers before a lift number.
+    let mut factor = hand::lift::lifted(ROTORS, &[lift(2, [10.5, 0.0, 0.0])]);
+    factor.set(52, 0.0);
+    all.push(factor.bytes());
     let mut slow = hand::plain();
     slow.pitch_speed = true;
     slow.numbers[36] = 0.1f32.next_down();
@@ -172,7 +196,8 @@ fn states() -> Vec<Vec<u8>> {
             10..13 => limits::RATE,
             13..21 => limits::MOTOR,
             21..29 => limits::SERVO,
-            _ => limits::SCALE,
+            29..37 => limits::SCALE,
+            _ => limits::MOTOR,
         };
         let [below, above] = outside(range);
         let tries = match at % 3 {
@@ -278,21 +303,21 @@ fn with_falloff(pitch_speed: bool) -> AirframeBlock {
     block
 }
 
+/// Factors of a slot's own.
+fn own(slot: u8) -> [f32; 3] {
+    [0.25, -0.5, 1.0].map(|factor| factor * f32::from(slot + 1))
+}
+
 /// Flights of motors in all slots, each with a torque of its own: in each slot every limit of a
 /// thrust scale once, beside the others in the other slots. Every other motor runs without a row.
 fn scales() -> Vec<Vec<u8>> {
-    let motor = |slot: u8| Row {
-        servo: false,
-        slot,
-        factors: [0.25, -0.5, 1.0].map(|factor| factor * f32::from(slot + 1)),
-    };
     let mut flights = Vec::new();
     for first in 0..SLOTS {
         let mut block = with_falloff(first % 2 == 1);
         block.rows = (0..SLOTS as u8)
             .skip(first % 2)
             .step_by(2)
-            .map(motor)
+            .map(|slot| motor(slot, own(slot)))
             .collect();
         let mut state = hand::at_rest();
         state.velocity = [5.0, 0.0, 0.0];
@@ -341,6 +366,110 @@ fn faint() -> Vec<Vec<u8>> {
         bytes
     };
     vec![flight(3.0, -5.0), flight(3.0, 0.0), flight(2.0, 0.0)]
+}
+
+/// A lift running value just below and just above its range and a NaN, in each slot, and a tick: with
+/// lift numbers in every other slot.
+fn refused_lifting() -> Vec<Vec<u8>> {
+    let [below, above] = outside(limits::MOTOR);
+    let states = hand::lift::lifting(&[below, above, f32::NAN]);
+    let blocks = [hand::plain(), hand::lift::lifted(ROTORS, &[])];
+    let flight = |(at, state): (usize, &State)| with_tick(&blocks[at / 3 % 2], state, 0.01);
+    states.iter().enumerate().map(flight).collect()
+}
+
+/// At rest, the lift rotors at the edges of a power.
+fn lifting() -> State {
+    let mut state = hand::at_rest();
+    let edges = &TURNING[TURNING.len() - SLOTS..];
+    state.lift_motors.copy_from_slice(edges);
+    state
+}
+
+/// The lift numbers with this exponent and this drag.
+fn rotors(exponent: f32, drag: f32) -> [f32; LIFT_NUMBERS] {
+    let mut numbers = ROTORS;
+    numbers[1] = exponent;
+    numbers[5] = drag;
+    numbers
+}
+
+/// A flight by each exponent of lift rotors, with rows for every other one, beside forward motors of
+/// the square.
+fn lifts() -> Vec<Vec<u8>> {
+    let rows: Vec<Row> = (0..SLOTS as u8)
+        .step_by(2)
+        .map(|slot| lift(slot, own(slot)))
+        .collect();
+    let flight = |exponent| {
+        powered(
+            &hand::lift::lifted(rotors(exponent, 0.02), &rows),
+            &lifting(),
+            3,
+        )
+    };
+    EXPONENTS.into_iter().map(flight).collect()
+}
+
+/// Lift rotors in air from all sides, with no drag, a little and the most; with and without a wash.
+fn dragged() -> Vec<Vec<u8>> {
+    let mut state = lifting();
+    state.velocity = [3.0, -2.0, 1.0];
+    let flight = |drag| {
+        [None, Some([1.0; 7])].map(|wash| {
+            let block = AirframeBlock {
+                wash,
+                ..hand::lift::lifted(rotors(2.0, drag), &[lift(0, [1.0, -1.0, 0.5])])
+            };
+            powered(&block, &state, 3)
+        })
+    };
+    [0.0, 0.03, 10.0].into_iter().flat_map(flight).collect()
+}
+
+/// A motor and a lift rotor on one slot, by one command, and each of them alone; a later row of one
+/// group between two of the other; thrust scales that are the motors' alone.
+fn both_groups() -> Vec<Vec<u8>> {
+    let (forward, upward) = (motor(3, [0.0, 0.5, 1.0]), lift(3, [1.0, -1.0, 0.25]));
+    let later = [
+        upward,
+        forward,
+        lift(3, [-0.5, 0.0, 2.0]),
+        motor(3, [1.0, 0.0, 0.0]),
+    ];
+    let rows: [&[Row]; 4] = [&[forward, upward], &[forward], &[upward], &later];
+    let mut state = hand::at_rest();
+    state.motors[3] = 0.75;
+    state.lift_motors[3] = 0.25;
+    state.thrust_scale[3] = 0.5;
+    let flight = |rows: &[Row]| powered(&hand::lift::lifted(ROTORS, rows), &state, 3);
+    rows.into_iter().map(flight).collect()
+}
+
+/// Lift running values without lift numbers: they stay, and push nothing.
+fn idle() -> Vec<Vec<u8>> {
+    let mut block = hand::plain();
+    block.rows = vec![motor(3, [0.0, 0.0, 1.0])];
+    vec![
+        powered(&block, &lifting(), 2),
+        powered(&with_wash(), &lifting(), 2),
+    ]
+}
+
+/// Lift rotors on all slots over motors on all slots: sixteen rows, a wash, and ticks that turn.
+fn all_together() -> Vec<Vec<u8>> {
+    let slots = 0..SLOTS as u8;
+    let rows = slots.flat_map(|slot| [motor(slot, own(slot)), lift(slot, own(7 - slot))]);
+    let block = AirframeBlock {
+        wash: Some([1.0; 7]),
+        pitch_speed: true,
+        ..hand::lift::lifted(rotors(1.8, 0.01), &rows.collect::<Vec<Row>>())
+    };
+    let mut flown = hand::with_exponent(block, 2.5);
+    flown.numbers[36] = 20.0;
+    let mut state = lifting();
+    state.velocity = [5.0, 1.0, -1.0];
+    vec![powered(&flown, &state, 8)]
 }
 
 /// A flight of ticks of 1/64 s with all motors at half command.

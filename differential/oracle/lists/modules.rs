@@ -6,16 +6,17 @@ use stable_flight::mixers::{MixRow, Slot};
 use super::list;
 use crate::aero::{self, Wash};
 use crate::arguments::{EXPONENTS, SPECIAL};
-use crate::blocks::{Airframe, SLOTS, State, layout, mix};
+use crate::blocks::{self, Airframe, SLOTS, State, layout, mix, rotors};
 use crate::body::{Body, Loads, MassProperties};
 use crate::hand;
-use crate::inputs::{self, Row};
+use crate::inputs::{self, Kind, Row};
 use crate::lag;
 use crate::limits;
 use crate::motors::Motors;
 use crate::rng::Rng;
 use crate::surfaces::Surfaces;
 use crate::tick::{array, body, body_numbers, falloff, model, vector, wash};
+use crate::wing::FixedWing;
 use crate::words::case;
 
 /// A whole number or a flag as a word of a list.
@@ -210,53 +211,128 @@ fn motors_case(rng: &mut Rng, exponent: f32, edged: bool) -> String {
     case(&words, &answers)
 }
 
-/// The words of rows: the count, then kind (0 motor, 1 servo), slot, roll, pitch, yaw of each.
+pub fn lift() -> String {
+    let mut rng = Rng::new(22);
+    let mut cases: Vec<String> = (0..80).map(|_| lift_case(&mut rng, 2.0, false)).collect();
+    for exponent in EXPONENTS {
+        cases.extend((0..16).map(|_| lift_case(&mut rng, exponent, true)));
+    }
+    list(
+        "lift: max thrust, exponent, drag (places 52, 53, 57), factor, air 3, used 8 (0 or 1), torques \
+         8 x 3, running 8, commands 8 > running 8, force 3, torque 3",
+        cases,
+    )
+}
+
+/// A case of lift rotors with this exponent, their running values at its edges where `edged`.
+fn lift_case(rng: &mut Rng, exponent: f32, edged: bool) -> String {
+    let (_, _, max_thrust) = prop(rng);
+    let wild = rng.once_in(4);
+    let drag = match rng.below(4) {
+        0 => rng.pick(&[0.0, -0.0, 10.0]),
+        _ => rng.between(0.0, 0.1),
+    };
+    let factor = if wild {
+        mostly(rng, 0.0, 1.0)
+    } else {
+        rng.between(0.0, 1.0)
+    };
+    let air = air(rng);
+    let used: [bool; SLOTS] = core::array::from_fn(|_| !rng.once_in(3));
+    let torques: [f32; 24] = core::array::from_fn(|_| finite(rng, -1.0, 1.0));
+    let mut running: [f32; SLOTS] = if wild {
+        some(rng, 0.0, 1.0)
+    } else {
+        core::array::from_fn(|_| rng.between(0.0, 1.0))
+    };
+    if edged {
+        put_at_edges(rng, &mut running);
+    }
+    let commands: [f32; SLOTS] = some(rng, 0.0, 1.0);
+    let (motors, force, torque) = FixedWing::lift_step(
+        rotors([max_thrust, exponent, 0.0, 0.0, 1.0, 0.0]),
+        drag,
+        |motors| {
+            motors.set_slots(used, vectors(&torques));
+            motors.set_running(running);
+        },
+        (&commands, factor),
+        vector(air),
+    );
+    let mut words = vec![max_thrust, exponent, drag, factor];
+    words.extend(air);
+    words.extend(used.map(|used| whole(usize::from(used))));
+    words.extend(torques);
+    words.extend(running);
+    words.extend(commands);
+    let mut answers = motors.running().to_vec();
+    answers.extend(array(force));
+    answers.extend(array(torque));
+    case(&words, &answers)
+}
+
+/// The words of rows: the count, then kind (0 motor, 1 servo, 2 lift rotor), slot, roll, pitch, yaw of
+/// each.
 fn row_words(rows: &[Row]) -> Vec<f32> {
     let mut words = vec![whole(rows.len())];
     for row in rows {
-        words.push(whole(usize::from(row.servo)));
+        words.push(whole(match row.kind {
+            Kind::Motor => 0,
+            Kind::Servo => 1,
+            Kind::Lift => 2,
+        }));
         words.push(whole(usize::from(row.slot)));
         words.extend(row.factors);
     }
     words
 }
 
-fn mix_rows(rows: &[Row]) -> Vec<MixRow> {
-    let slot = |row: &Row| {
-        if row.servo {
-            Slot::Servo(row.slot)
-        } else {
-            Slot::Motor(row.slot)
-        }
+fn mix_rows(rows: &[Row]) -> Vec<blocks::Row> {
+    let slot = |row: &Row| match row.kind {
+        Kind::Servo => Slot::Servo(row.slot),
+        _ => Slot::Motor(row.slot),
     };
-    rows.iter()
-        .map(|row| MixRow::new(slot(row), row.factors))
-        .collect()
+    let mixed = |row: &Row| blocks::Row {
+        lift: row.kind == Kind::Lift,
+        mix: MixRow::new(slot(row), row.factors),
+    };
+    rows.iter().map(mixed).collect()
 }
 
+/// Rows of all kinds.
 fn some_rows(rng: &mut Rng, most: usize) -> Vec<Row> {
-    (0..rng.below(most + 1)).map(|_| inputs::row(rng)).collect()
+    let count = rng.below(most + 1);
+    (0..count).map(|_| inputs::row(rng, true)).collect()
+}
+
+fn used_words(used: [bool; SLOTS]) -> [f32; SLOTS] {
+    used.map(|used| whole(usize::from(used)))
 }
 
 pub fn motor_rows() -> String {
     let mut rng = Rng::new(14);
     let mut cases = Vec::new();
-    for index in 0..70 {
-        let rows = some_rows(&mut rng, if index % 7 == 0 { 16 } else { 6 });
-        let (arm, yaw) = (rng.between(0.0, 10.0), rng.between(-10.0, 10.0));
+    for index in 0..100 {
+        let rows = some_rows(&mut rng, if index % 5 == 0 { 16 } else { 6 });
+        let mut layout = || [rng.between(0.0, 10.0), rng.between(-10.0, 10.0)];
+        let ([arm, yaw], [lift_arm, lift_yaw]) = (layout(), layout());
         let mut airframe = powered(false, 0.0, 1.0);
         airframe.numbers[39] = arm;
         airframe.numbers[40] = yaw;
+        airframe.lift = Some([1.0, 2.0, lift_arm, lift_yaw, 1.0, 0.0]);
         mix(&mut airframe, &mix_rows(&rows));
-        let mut words = vec![arm, yaw];
+        let mut words = vec![arm, yaw, lift_arm, lift_yaw];
         words.extend(row_words(&rows));
-        let mut answers: Vec<f32> = airframe.used.map(|used| whole(usize::from(used))).into();
+        let mut answers = used_words(airframe.used).to_vec();
         answers.extend(flat(airframe.torques));
+        answers.extend(used_words(airframe.lift_used));
+        answers.extend(flat(airframe.lift_torques));
         cases.push(case(&words, &answers));
     }
     list(
-        "motor_rows: arm (place 40), yaw torque (place 41), row count, then for each row kind \
-         (0 motor, 1 servo) slot roll pitch yaw > used 8 (0 or 1), torques 8 x 3",
+        "motor_rows: arm, yaw torque (places 40, 41), arm, yaw torque of the lift rotors (54, 55), row \
+         count, then for each row kind (0 motor, 1 servo, 2 lift rotor) slot roll pitch yaw > used 8 (0 \
+         or 1), torques 8 x 3, and the same of the lift rotors",
         cases,
     )
 }
@@ -267,8 +343,8 @@ pub fn surfaces() -> String {
         .map(|index| surfaces_case(&mut rng, index))
         .collect();
     list(
-        "surfaces: row count, then for each row kind (0 motor, 1 servo) slot roll pitch yaw; \
-         then running 8, commands 8, factor, max deflection 3 > weights 8 x 3, running 8, \
+        "surfaces: row count, then for each row kind (0 motor, 1 servo, 2 lift rotor) slot roll pitch \
+         yaw; then running 8, commands 8, factor, max deflection 3 > weights 8 x 3, running 8, \
          deflection 3",
         cases,
     )

@@ -1,21 +1,15 @@
 -- `airframe_block::header_of` meets its contract. Assumes nothing.
-use borrow.Author.Needs.{needs}
 use Rattle.airframe_block.specs.Block.{headerOf}
+use borrow.Author.Needs.{needs}
 use Rattle.airframe_block.proofs.header_of.Statement.{statement}
 use Rattle.airframe_block.proofs.header_of.Tie as tie
 
 wide-requires : tie.Need-wide-requires
 wide-requires c κs = search needs
 
-mul-t11 : tie.Need-mul-t11
-mul-t11 c = search needs
-
-add-t13 : tie.Need-add-t13
-add-t13 c = search needs
-
 returns : tie.Need-returns
 unfolding headerOf
 returns c = simp (c .wide .ensures)
 
 pub header-of-spec : {M : Type 1} → statement M
-header-of-spec = tie.close (tie.spec wide-requires mul-t11 add-t13 returns)
+header-of-spec = tie.close (tie.spec wide-requires returns)

@@ -21,7 +21,7 @@ returns : tie.Need-returns
 returns c =
     let b = c .before .before in
     let a = b .before .before .before .args in
-    c .refused .ensures ∙ body-refused (a .s .now) (a .h) (λ q. c .before .if1 .taken (b .reserved-row .ensures ∙ ap (λ z. reservedRow (a .s .now) z (a .h .rows)) (b .before .rows-at .ensures .0) ∙ q))
+    c .refused .ensures ∙ body-refused (a .s .now) (a .h) (λ q. c .before .if1 .taken (b .reserved-row .ensures ∙ ap (λ z. reservedRow (a .s .now) (a .h .lift) z (a .h .rows)) (b .before .rows-at .ensures .0) ∙ q))
 
 read-rows-requires : tie.Need-read-rows-requires
 unfolding bytesOf
@@ -48,7 +48,7 @@ returns-2 c =
     let numbers = n .read-numbers .ensures in
     c .placed .ensures
     ∙ ap₂ placedAirframe (c .before .airframe-by .ensures ∙ ap₂ (λ x y. airframeBy x (a .h) y) numbers rows) rows
-    ∙ body-read (a .s .now) (a .h) (sym (b .reserved-row .ensures ∙ ap (λ z. reservedRow (a .s .now) z (a .h .rows)) (b .before .rows-at .ensures .0)) ∙ r .before .if1 .left)
+    ∙ body-read (a .s .now) (a .h) (sym (b .reserved-row .ensures ∙ ap (λ z. reservedRow (a .s .now) (a .h .lift) z (a .h .rows)) (b .before .rows-at .ensures .0)) ∙ r .before .if1 .left)
 
 pub read-body-spec : {M : Type 1} → statement M
 read-body-spec =

@@ -1,5 +1,6 @@
 -- `arrays::airframe_number` meets its contract. Assumes nothing.
 use borrow.Author.Tests.{le-ltb, lt-ltb}
+use native.Mathlib.Omega.{arith}
 use Rattle.arrays.specs.Airframe.{airframeNumber}
 use borrow.Author.Needs.{needs}
 use Rattle.arrays.proofs.airframe_number.Statement.{statement}
@@ -31,21 +32,38 @@ used-number-requires c κs = search needs
 
 returns-4 : tie.Need-returns-4
 unfolding airframeNumber
-returns-4 c = simp (c .used-number .ensures, lt-ltb _ _ (c .before .if4 .taken), le-ltb _ _ (c .before .before .if3 .left), le-ltb _ _ (c .before .before .before .if2 .left), le-ltb _ _ (c .before .before .before .before .if1 .left))
+returns-4 c =
+    let s = c .before .before in
+    simp (c .used-number .ensures, lt-ltb _ _ (c .before .if4 .taken), le-ltb _ _ (s .if3 .left), le-ltb _ _ (s .before .if2 .left), le-ltb _ _ (s .before .before .if1 .left))
 
 vecs-number-requires : tie.Need-vecs-number-requires
 vecs-number-requires c κs = search needs
 
 returns-5 : tie.Need-returns-5
 unfolding airframeNumber
-returns-5 c = simp (c .vecs-number .ensures, lt-ltb _ _ (c .before .if5 .taken), le-ltb _ _ (c .before .before .if4 .left), le-ltb _ _ (c .before .before .before .if3 .left), le-ltb _ _ (c .before .before .before .before .if2 .left), le-ltb _ _ (c .before .before .before .before .before .if1 .left))
+returns-5 c =
+    let s = c .before .before in
+    simp (c .vecs-number .ensures, lt-ltb _ _ (c .before .if5 .taken), le-ltb _ _ (s .if4 .left), le-ltb _ _ (s .before .if3 .left), le-ltb _ _ (s .before .before .if2 .left), le-ltb _ _ (s .before .before .before .if1 .left))
 
 vecs-number-requires-2 : tie.Need-vecs-number-requires-2
 vecs-number-requires-2 c κs = search needs
 
 returns-6 : tie.Need-returns-6
 unfolding airframeNumber
-returns-6 c = simp (c .vecs-number2 .ensures, le-ltb _ _ (c .before .if5 .left), le-ltb _ _ (c .before .before .if4 .left), le-ltb _ _ (c .before .before .before .if3 .left), le-ltb _ _ (c .before .before .before .before .if2 .left), le-ltb _ _ (c .before .before .before .before .before .if1 .left))
+returns-6 c =
+    let s = c .before .before in
+    let r = s .before .before in
+    simp (c .vecs-number2 .ensures, lt-ltb _ _ (c .before .if6 .taken), le-ltb _ _ (s .if5 .left), le-ltb _ _ (s .before .if4 .left), le-ltb _ _ (r .if3 .left), le-ltb _ _ (r .before .if2 .left), le-ltb _ _ (r .before .before .if1 .left))
+
+lift-number-requires : tie.Need-lift-number-requires
+lift-number-requires c κs = (omega arith, omega arith)
+
+returns-7 : tie.Need-returns-7
+unfolding airframeNumber
+returns-7 c =
+    let s = c .before .before in
+    let r = s .before .before in
+    simp (c .lift-number .ensures, le-ltb _ _ (c .before .if6 .left), le-ltb _ _ (s .if5 .left), le-ltb _ _ (s .before .if4 .left), le-ltb _ _ (r .if3 .left), le-ltb _ _ (r .before .if2 .left), le-ltb _ _ (r .before .before .if1 .left))
 
 pub airframe-number-spec : {M : Type 1} → statement M
 airframe-number-spec =
@@ -62,4 +80,6 @@ airframe-number-spec =
     vecs-number-requires
     returns-5
     vecs-number-requires-2
-    returns-6)
+    returns-6
+    lift-number-requires
+    returns-7)

@@ -1,19 +1,18 @@
 -- `arrays::flags_in` meets its contract. Assumes nothing.
 use borrow.Author.Needs.{needs}
-use Prim.Native.Nat.{_-_}
-use Prim.Native.Nat.{_+_, ℕ}
+use Prim.Native.Nat.{_+_, _-_, ℕ}
 use Rattle.mixers.proofs.Slots.{Filled, fill-end, fill-more, fill-start}
 use Rattle.mixers.specs.Slots.{at}
 use mathlib.Core.Bool.{false}
-use Rattle.arrays.specs.Airframe.{flagsIn, isSet, usedAt}
+use Rattle.arrays.specs.Airframe.{flagsIn, isSet}
 use Rattle.arrays.proofs.flags_in.Statement.{statement}
 use Rattle.arrays.proofs.flags_in.Tie as tie
 
 abbrev Inv-loop : tie.InvT-loop
-Inv-loop xs flags₀ k₀ flags k = Filled false (λ (j : ℕ). isSet (at xs (usedAt + j))) flags₀ flags k
+Inv-loop xs i flags₀ k₀ flags k = Filled false (λ (j : ℕ). isSet (at xs (i + j))) flags₀ flags k
 
 abbrev μ-loop : tie.MeasureT-loop
-μ-loop xs flags₀ k₀ flags k = 8 - k
+μ-loop xs i flags₀ k₀ flags k = 8 - k
 
 loop-holds : tie.Need-loop-holds Inv-loop μ-loop
 loop-holds c = fill-start _ _ _ (search needs)

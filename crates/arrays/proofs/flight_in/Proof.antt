@@ -25,9 +25,23 @@ slots-in-requires-2 c κs = search needs
 slots-in-requires-3 : tie.Need-slots-in-requires-3
 slots-in-requires-3 c κs = search needs
 
+slots-in-requires-4 : tie.Need-slots-in-requires-4
+slots-in-requires-4 c κs = search needs
+
 returns : tie.Need-returns
 unfolding flightIn
-returns c = simp (c .slots-in3 .ensures, c .before .slots-in2 .ensures, c .before .before .slots-in .ensures, c .before .before .before .vec-in3 .ensures, c .before .before .before .before .quat-in .ensures, c .before .before .before .before .before .vec-in2 .ensures, c .before .before .before .before .before .before .vec-in .ensures)
+returns c =
+    let s = c .before .before .before in
+    simp (
+      c .slots-in4 .ensures,
+      c .before .slots-in3 .ensures,
+      c .before .before .slots-in2 .ensures,
+      s .slots-in .ensures,
+      s .before .vec-in3 .ensures,
+      s .before .before .quat-in .ensures,
+      s .before .before .before .vec-in2 .ensures,
+      s .before .before .before .before .vec-in .ensures,
+    )
 
 pub flight-in-spec : {M : Type 1} → statement M
 flight-in-spec =
@@ -40,4 +54,5 @@ flight-in-spec =
     slots-in-requires
     slots-in-requires-2
     slots-in-requires-3
+    slots-in-requires-4
     returns)

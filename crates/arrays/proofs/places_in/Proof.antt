@@ -1,50 +1,101 @@
--- `arrays::places_in` meets its contract. Assumes nothing.
+-- `arrays::places_in` meets its contract: the first loop reads the numbers before the lift rotors', the second theirs. Assumes nothing.
 use borrow.Author.Needs.{needs}
-use Prim.Native.Nat.{_-_}
-use Prim.Native.Nat.{ℕ}
-use lib.Ieee.{nan}
+use Prim.Native.Nat.{_-_, _≤_, ℕ}
+use lib.Ieee.{Float, nan}
+use mathlib.Core.List.{List}
+use mathlib.Core.Path.{ap, refl, sym}
 use native.Mathlib.Omega.{arith}
+use Rattle.airframe.specs.Numbers.{liftFirst, numbersCount}
 use Rattle.mixers.proofs.Filling.{Reached, reach-end, reach-more, reach-start}
 use Rattle.mixers.specs.Slots.{at}
-use mathlib.Core.Path.{refl}
-use Rattle.airframe.specs.Numbers.{numbersCount}
-use Rattle.arrays.specs.Airframe.{placesIn}
+use Rattle.arrays.proofs.Places.{place-before, place-behind}
+use Rattle.arrays.specs.Airframe.{placeAt, placesIn}
 use Rattle.arrays.proofs.places_in.Statement.{statement}
 use Rattle.arrays.proofs.places_in.Tie as tie
 
+-- number j of those by place
+abbrev number : List Float → ℕ → Float
+number xs j = at xs (placeAt j)
+
 abbrev Inv-loop : tie.InvT-loop
-Inv-loop xs places₀ k₀ places k = Reached numbersCount nan (λ (j : ℕ). at xs j) places₀ places k
+Inv-loop xs places₀ k₀ places k = (k ≤ liftFirst) × Reached numbersCount nan (number xs) places₀ places k
 
 abbrev μ-loop : tie.MeasureT-loop
-μ-loop xs places₀ k₀ places k = numbersCount - k
+μ-loop xs places₀ k₀ places k = liftFirst - k
 
-loop-holds : tie.Need-loop-holds Inv-loop μ-loop
-loop-holds c = reach-start _ _ _ _ (search needs)
+abbrev Inv-loop2 : tie.InvT-loop2
+Inv-loop2 xs places₀ k₀ places k = (liftFirst ≤ k) × Reached numbersCount nan (number xs) places₀ places k
 
-mul-places : tie.Need-mul-places Inv-loop μ-loop
+abbrev μ-loop2 : tie.MeasureT-loop2
+μ-loop2 xs places₀ k₀ places k = numbersCount - k
+
+loop-holds : tie.Need-loop-holds Inv-loop μ-loop Inv-loop2 μ-loop2
+loop-holds c = (search needs, reach-start _ _ _ _ (search needs))
+
+mul-places : tie.Need-mul-places Inv-loop μ-loop Inv-loop2 μ-loop2
 mul-places c = search needs
 
-shared-slice-read-places : tie.Need-shared-slice-read-places Inv-loop μ-loop
+shared-slice-read-places : tie.Need-shared-slice-read-places Inv-loop μ-loop Inv-loop2 μ-loop2
 shared-slice-read-places c = search needs
 
-mul-places-2 : tie.Need-mul-places-2 Inv-loop μ-loop
+mul-places-2 : tie.Need-mul-places-2 Inv-loop μ-loop Inv-loop2 μ-loop2
 mul-places-2 c = search needs
 
-array-write-places : tie.Need-array-write-places Inv-loop μ-loop
+array-write-places : tie.Need-array-write-places Inv-loop μ-loop Inv-loop2 μ-loop2
 array-write-places c = search needs
 
-add-k : tie.Need-add-k Inv-loop μ-loop
+add-k : tie.Need-add-k Inv-loop μ-loop Inv-loop2 μ-loop2
 add-k c = search needs
 
-loop-less : tie.Need-loop-less Inv-loop μ-loop
+loop-less : tie.Need-loop-less Inv-loop μ-loop Inv-loop2 μ-loop2
 loop-less c = search needs
 
-loop-again : tie.Need-loop-again Inv-loop μ-loop
-loop-again c = let s = c .before .before in reach-more numbersCount nan _ _ (s .loop .places) (s .loop .k) _ refl (c .before .loop-test .taken) (s .loop .inv)
+loop-again : tie.Need-loop-again Inv-loop μ-loop Inv-loop2 μ-loop2
+loop-again c =
+    let s = c .before .before in
+    let k = s .loop .k in
+    let before = c .before .loop-test .taken in
+    (search needs, reach-more numbersCount nan _ _ (s .loop .places) k _ (ap (at (s .before .args .xs .now)) (sym (place-before k before))) (omega arith) (s .loop .inv .1))
 
-returns : tie.Need-returns Inv-loop μ-loop
+loop2-holds : tie.Need-loop2-holds Inv-loop μ-loop Inv-loop2 μ-loop2
+loop2-holds c =
+    let r = c .before .loop .inv .1 in
+    (c .loop-test .left, record { short = r .short; long = r .long; done = r .done; left = λ j l. refl })
+
+sub-places : tie.Need-sub-places Inv-loop μ-loop Inv-loop2 μ-loop2
+sub-places c = search needs
+
+add-places : tie.Need-add-places Inv-loop μ-loop Inv-loop2 μ-loop2
+add-places c = search needs
+
+mul-places-3 : tie.Need-mul-places-3 Inv-loop μ-loop Inv-loop2 μ-loop2
+mul-places-3 c = search needs
+
+shared-slice-read-places-2 : tie.Need-shared-slice-read-places-2 Inv-loop μ-loop Inv-loop2 μ-loop2
+shared-slice-read-places-2 c = search needs
+
+mul-places-4 : tie.Need-mul-places-4 Inv-loop μ-loop Inv-loop2 μ-loop2
+mul-places-4 c = search needs
+
+array-write-places-2 : tie.Need-array-write-places-2 Inv-loop μ-loop Inv-loop2 μ-loop2
+array-write-places-2 c = search needs
+
+add-k-2 : tie.Need-add-k-2 Inv-loop μ-loop Inv-loop2 μ-loop2
+add-k-2 c = search needs
+
+loop2-less : tie.Need-loop2-less Inv-loop μ-loop Inv-loop2 μ-loop2
+loop2-less c = search needs
+
+loop2-again : tie.Need-loop2-again Inv-loop μ-loop Inv-loop2 μ-loop2
+loop2-again c =
+    let s = c .before .before in
+    let k = s .loop2 .k in
+    let behind = s .loop2 .inv .0 in
+    (search needs, reach-more numbersCount nan _ _ (s .loop2 .places) k _ (ap (at (s .before .before .before .args .xs .now)) (sym (place-behind k behind))) (c .before .loop2-test .taken) (s .loop2 .inv .1))
+
+returns : tie.Need-returns Inv-loop μ-loop Inv-loop2 μ-loop2
 unfolding placesIn
-returns c = let s = c .before in reach-end numbersCount nan _ _ (s .loop .places) (s .loop .k) (s .loop .inv) (λ k l m. absurd (omega (arith, l, m, c .loop-test .left)))
+returns c = let s = c .before in reach-end numbersCount nan _ _ (s .loop2 .places) (s .loop2 .k) (s .loop2 .inv .1) (λ k l m. absurd (omega (arith, l, m, c .loop2-test .left)))
 
 pub places-in-spec : {M : Type 1} → statement M
 places-in-spec =
@@ -52,6 +103,8 @@ places-in-spec =
     (tie.spec
     Inv-loop
     μ-loop
+    Inv-loop2
+    μ-loop2
     loop-holds
     mul-places
     shared-slice-read-places
@@ -60,4 +113,14 @@ places-in-spec =
     add-k
     loop-less
     loop-again
+    loop2-holds
+    sub-places
+    add-places
+    mul-places-3
+    shared-slice-read-places-2
+    mul-places-4
+    array-write-places-2
+    add-k-2
+    loop2-less
+    loop2-again
     returns)

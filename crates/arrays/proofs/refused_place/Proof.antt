@@ -1,9 +1,9 @@
 -- `arrays::refused_place` meets its contract. Assumes nothing.
-use borrow.Author.Needs.{needs}
 use mathlib.Core.Path.{_∙_, _≡_, sym}
 use Rattle.float.specs.Lists.{listFrom, listOf}
 use Rattle.arrays.proofs.Places.{array-refused, tests}
-use Rattle.arrays.specs.Airframe.{placesIn}
+use Rattle.arrays.specs.Airframe.{placeAt, placesIn}
+use borrow.Author.Needs.{needs}
 use Rattle.arrays.proofs.refused_place.Statement.{statement}
 use Rattle.arrays.proofs.refused_place.Tie as tie
 
@@ -34,19 +34,30 @@ vecs-in-requires c κs = search needs
 vecs-in-requires-2 : tie.Need-vecs-in-requires-2
 vecs-in-requires-2 c κs = search needs
 
+shared-slice-read-is-set-2 : tie.Need-shared-slice-read-is-set-2
+shared-slice-read-is-set-2 c = search needs
+
+is-set-requires-2 : tie.Need-is-set-requires-2
+is-set-requires-2 c κs = search needs
+
+vecs-in-requires-3 : tie.Need-vecs-in-requires-3
+vecs-in-requires-3 c κs = search needs
+
 first-refused-requires : tie.Need-first-refused-requires
 first-refused-requires c κs = search needs
 
 returns : tie.Need-returns
-unfolding placesIn listOf listFrom
+unfolding placesIn placeAt listOf listFrom
 returns c =
-    let w = c .before in
+    let r = c .before in
+    let p = r .before in
+    let w = p .before .before in
     let t = w .before in
     let s = t .before in
     let f = s .before .before in
     let k = f .before .before in
     let xs = k .before .before .before .before .args .xs .now in
-    let e : c .first-refused .result ≡ tests xs (placesIn xs) = simp (c .first-refused .ensures, w .vecs-in2 .ensures, t .vecs-in .ensures, s .is-set .ensures, f .falloff-of .ensures, k .kind-of .ensures, k .before .before .places-in .ensures) in
+    let e : c .first-refused .result ≡ tests xs (placesIn xs) = simp (c .first-refused .ensures, r .vecs-in3 .ensures, p .is-set2 .ensures, w .vecs-in2 .ensures, t .vecs-in .ensures, s .is-set .ensures, f .falloff-of .ensures, k .kind-of .ensures, k .before .before .places-in .ensures) in
     e ∙ sym (array-refused xs)
 
 pub refused-place-spec : {M : Type 1} → statement M
@@ -62,5 +73,8 @@ refused-place-spec =
     is-set-requires
     vecs-in-requires
     vecs-in-requires-2
+    shared-slice-read-is-set-2
+    is-set-requires-2
+    vecs-in-requires-3
     first-refused-requires
     returns)

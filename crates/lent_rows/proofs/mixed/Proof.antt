@@ -4,7 +4,7 @@ use mathlib.Core.Path.{_∙_, _≡_, ap, sym}
 use borrow.Author.Needs.{needs}
 use Rattle.lent_rows.specs.Mixing.{mixOf, surfacesIn}
 use Rattle.lent_rows.specs.declared.Mix.{Mix}
-use Rattle.lent_rows.proofs.Forms.{lent-motors, lent-surfaces}
+use Rattle.lent_rows.proofs.Forms.{lent-lift, lent-motors, lent-surfaces}
 use Rattle.lent_rows.proofs.mixed.Statement.{statement}
 use Rattle.lent_rows.proofs.mixed.Tie as tie
 
@@ -25,8 +25,12 @@ returns c =
     let long : length (rows .rows) ≡ 16 = sym (length-map (rows .rows) _) ∙ s .good .0 .1 .1 .0 .1 .0 .1 in
     let l = s .args .layout in
     let tau = s .args .time-constant-s in
-    let e : c .mixed-lent .result ≡ mixOf rows l tau = simp (c .mixed-lent .ensures, c .before .start .ensures, c .before .before .live .ensures .0) in
-    (e, (ap (λ (m : Mix). m .motors) e ∙ lent-motors rows l tau long, ap surfacesIn e ∙ lent-surfaces rows l tau long))
+    let l' = s .args .lift-layout in
+    let tau' = s .args .lift-time-constant-s in
+    let e : c .mixed-lent .result ≡ mixOf rows l tau l' tau' = simp (c .mixed-lent .ensures, c .before .start .ensures, c .before .before .live .ensures .0) in
+    let motors = ap (λ (m : Mix). m .motors) e ∙ lent-motors rows l tau l' tau' long in
+    let lift = ap (λ (m : Mix). m .lift) e ∙ lent-lift rows l tau l' tau' long in
+    (e, (motors, (lift, ap surfacesIn e ∙ lent-surfaces rows l tau l' tau' long)))
 
 pub mixed-spec : {M : Type 1} → statement M
 mixed-spec = tie.close (tie.spec live-requires start-requires mixed-lent-requires returns)

@@ -13,9 +13,14 @@ lag-factor-requires c κs = search needs
 factor-requires : tie.Need-factor-requires
 factor-requires c κs = search needs
 
+lift-factor-requires : tie.Need-lift-factor-requires
+lift-factor-requires c κs = search needs
+
 returns : tie.Need-returns
 unfolding beginOf
-returns c = simp (c .factor .ensures, c .before .lag-factor .ensures, c .before .before .to-bits .ensures)
+returns c = simp (c .lift-factor .ensures, c .before .factor .ensures, c .before .before .lag-factor .ensures, c .before .before .before .to-bits .ensures)
 
 pub begin-spec : {M : Type 1} → statement M
-begin-spec = tie.close (tie.spec to-bits-requires lag-factor-requires factor-requires returns)
+begin-spec =
+    tie.close
+    (tie.spec to-bits-requires lag-factor-requires factor-requires lift-factor-requires returns)

@@ -1,6 +1,6 @@
 -- `wing::loads` meets its contract. Assumes nothing.
-use borrow.Author.Needs.{needs}
 use Rattle.wing.specs.Loads.{aeroOf, airOf, loadsOf, loadsUnder, pullOf}
+use borrow.Author.Needs.{needs}
 use Rattle.wing.proofs.loads.Statement.{statement}
 use Rattle.wing.proofs.loads.Tie as tie
 
@@ -25,9 +25,28 @@ wrench-requires c κs = search needs
 with-thrust-requires : tie.Need-with-thrust-requires
 with-thrust-requires c κs = search needs
 
+with-lift-requires : tie.Need-with-lift-requires
+with-lift-requires c κs = c .before .before .before .before .before .before .before .before .before .pre
+
+loaded-by-requires : tie.Need-loaded-by-requires
+loaded-by-requires c κs = search needs
+
 returns : tie.Need-returns
 unfolding loadsOf loadsUnder aeroOf pullOf airOf
-returns c = simp (c .with-thrust .ensures, c .before .wrench .ensures, c .before .before .deflection-rad .ensures, c .before .before .before .wash-of .ensures, c .before .before .before .before .wrench-with .ensures, c .before .before .before .before .before .inverse-transform-vector .ensures, c .before .before .before .before .before .before .air-relative-velocity-ned-mps .ensures)
+returns c =
+    let s = c .before .before .before in
+    let p = s .before .before .before in
+    simp (
+      c .loaded-by .ensures,
+      c .before .with-lift .ensures,
+      c .before .before .with-thrust .ensures,
+      s .wrench .ensures,
+      s .before .deflection-rad .ensures,
+      s .before .before .wash-of .ensures,
+      p .wrench-with .ensures,
+      p .before .inverse-transform-vector .ensures,
+      p .before .before .air-relative-velocity-ned-mps .ensures,
+    )
 
 pub loads-spec : {M : Type 1} → statement M
 loads-spec =
@@ -40,4 +59,6 @@ loads-spec =
     deflection-rad-requires
     wrench-requires
     with-thrust-requires
+    with-lift-requires
+    loaded-by-requires
     returns)

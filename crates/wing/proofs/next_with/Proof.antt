@@ -1,7 +1,8 @@
 -- `wing::next_with` meets its contract. Assumes nothing.
+use lib.Ieee.{ofBits, round}
+use Rattle.wing.proofs.Lift.{held-factor}
 use Rattle.wing.specs.Contracts.{beginOf}
 use Rattle.wing.specs.Tick.{movedOf, nextFrom, nextOf, spunOf}
-use lib.Ieee.{ofBits, round}
 use borrow.Author.Needs.{needs}
 use Rattle.wing.proofs.next_with.Statement.{statement}
 use Rattle.wing.proofs.next_with.Tie as tie
@@ -18,6 +19,9 @@ surfaces-of-requires c κs = search needs
 move-to-requires : tie.Need-move-to-requires
 move-to-requires c κs = search needs
 
+lift-spun-requires : tie.Need-lift-spun-requires
+lift-spun-requires c κs = search needs
+
 loads-requires : tie.Need-loads-requires
 loads-requires c κs = search needs
 
@@ -26,7 +30,21 @@ stepped-requires c κs = search needs
 
 returns : tie.Need-returns
 unfolding nextOf nextFrom spunOf movedOf beginOf ofBits round
-returns c = simp (c .stepped .ensures, c .before .before .before .loads .ensures, c .before .before .before .before .move-to .ensures, c .before .before .before .before .before .surfaces-of .ensures, c .before .before .before .before .before .before .spin .ensures, c .before .before .before .before .before .before .before .motors-of .ensures, c .before .before .before .before .before .before .before .before .before .before .pre .0)
+returns c =
+    let l = c .before .before .before in
+    let s = l .before .before .before .before in
+    let x = s .before .before .before .before in
+    simp (
+      c .stepped .ensures,
+      l .loads .ensures,
+      l .before .lift-spun .ensures,
+      l .before .before .move-to .ensures,
+      l .before .before .before .surfaces-of .ensures,
+      s .spin .ensures,
+      s .before .motors-of .ensures,
+      x .pre .0,
+      held-factor (x .args .a) (x .args .f) (x .args .t .motors) (x .args .t .«step_s»),
+    )
 
 pub next-with-spec : {M : Type 1} → statement M
 next-with-spec =
@@ -36,6 +54,7 @@ next-with-spec =
     spin-requires
     surfaces-of-requires
     move-to-requires
+    lift-spun-requires
     loads-requires
     stepped-requires
     returns)

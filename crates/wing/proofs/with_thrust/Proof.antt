@@ -1,7 +1,7 @@
 -- `wing::with_thrust` meets its contract. Assumes nothing.
 use lib.Ieee.{ofBits}
-use borrow.Author.Needs.{needs}
 use Rattle.wing.specs.Loads.{withThrust}
+use borrow.Author.Needs.{needs}
 use Rattle.wing.proofs.with_thrust.Statement.{statement}
 use Rattle.wing.proofs.with_thrust.Tie as tie
 
@@ -14,31 +14,17 @@ new-requires-2 c κs = search needs
 add-requires : tie.Need-add-requires
 add-requires c κs = search needs
 
-transform-vector-requires : tie.Need-transform-vector-requires
-transform-vector-requires c κs = search needs
-
 add-requires-2 : tie.Need-add-requires-2
 add-requires-2 c κs = search needs
 
 add-requires-3 : tie.Need-add-requires-3
 add-requires-3 c κs = search needs
 
-zeros-requires : tie.Need-zeros-requires
-zeros-requires c κs = search needs
-
 returns : tie.Need-returns
 unfolding withThrust ofBits
-returns c = simp (c .zeros .ensures, c .before .add3 .ensures, c .before .before .add2 .ensures, c .before .before .before .transform-vector .ensures, c .before .before .before .before .add .ensures, c .before .before .before .before .before .new2 .ensures, c .before .before .before .before .before .before .new .ensures)
+returns c = let s = c .before .before in simp (c .add3 .ensures, c .before .add2 .ensures, s .add .ensures, s .before .new2 .ensures, s .before .before .new .ensures)
 
 pub with-thrust-spec : {M : Type 1} → statement M
 with-thrust-spec =
     tie.close
-    (tie.spec
-    new-requires
-    new-requires-2
-    add-requires
-    transform-vector-requires
-    add-requires-2
-    add-requires-3
-    zeros-requires
-    returns)
+    (tie.spec new-requires new-requires-2 add-requires add-requires-2 add-requires-3 returns)

@@ -1,6 +1,6 @@
 -- `airframe::Airframe::lowest_place` meets its contract. Assumes nothing.
-use borrow.Author.Needs.{needs}
 use Rattle.airframe.specs.Acceptance.{lowestPlace}
+use borrow.Author.Needs.{needs}
 use Rattle.airframe.proofs.Airframe.lowest_place.Statement.{statement}
 use Rattle.airframe.proofs.Airframe.lowest_place.Tie as tie
 
@@ -12,7 +12,7 @@ first-refused-requires c κs = search needs
 
 returns : tie.Need-returns
 unfolding lowestPlace
-returns c = simp (c .first-refused .ensures, c .before .before .before .numbers .ensures)
+returns c = simp (c .first-refused .ensures, c .before .before .before .before .before .before .numbers .ensures)
 
 pub lowest-place-spec : {M : Type 1} → statement M
 lowest-place-spec = tie.close (tie.spec numbers-requires first-refused-requires returns)

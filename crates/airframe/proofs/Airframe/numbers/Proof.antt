@@ -1,6 +1,6 @@
 -- `airframe::Airframe::numbers` meets its contract. Assumes nothing.
+use Rattle.airframe.specs.Numbers.{baseNumbers, coefficientNumbers, liftNumbers, numbersOf, washNumbers}
 use borrow.Author.Needs.{needs}
-use Rattle.airframe.specs.Numbers.{baseNumbers, coefficientNumbers, numbersOf, washNumbers}
 use Rattle.airframe.proofs.Airframe.numbers.Statement.{statement}
 use Rattle.airframe.proofs.Airframe.numbers.Tie as tie
 
@@ -8,7 +8,7 @@ falloff-number-requires : tie.Need-falloff-number-requires
 falloff-number-requires c κs = search needs
 
 returns : tie.Need-returns
-unfolding numbersOf baseNumbers coefficientNumbers washNumbers
+unfolding numbersOf baseNumbers coefficientNumbers washNumbers liftNumbers
 returns c = simp (c .falloff-number .ensures)
 
 pub numbers-spec : {M : Type 1} → statement M

@@ -2,9 +2,9 @@
 use Prim.Native.Nat.{_+_, ℕ}
 use mathlib.Core.Path.{_∙_, ap, ap₂, sym}
 use native.Mathlib.Omega.{arith}
-use borrow.Author.Needs.{needs}
 use Rattle.airframe_block.specs.Block.{headerBytes, segmentBytes}
-use Rattle.airframe_block.proofs.Segments.{base-bytes, base-holds, few, rows-at-is, wash-bytes, wash-holds}
+use Rattle.airframe_block.proofs.Segments.{base-bytes, base-holds, few, lift-bytes, lift-holds, rows-at-is, wash-bytes, wash-holds}
+use borrow.Author.Needs.{needs}
 use Rattle.airframe_block.proofs.Header.rows_at.Statement.{statement}
 use Rattle.airframe_block.proofs.Header.rows_at.Tie as tie
 
@@ -20,26 +20,47 @@ wash-requires c κs = search needs
 segment-bytes-requires-2 : tie.Need-segment-bytes-requires-2
 segment-bytes-requires-2 c κs = few (c .wash .result) (wash-holds (c .wash .result) _ (c .wash .ensures))
 
+lift-requires : tie.Need-lift-requires
+lift-requires c κs = search needs
+
+segment-bytes-requires-3 : tie.Need-segment-bytes-requires-3
+segment-bytes-requires-3 c κs = few (c .lift .result) (lift-holds (c .lift .result) _ (c .lift .ensures))
+
 add-result : tie.Need-add-result
 add-result c =
-    let b = c .before .before in
+    let b = c .before .before .before .before in
     let base = b .segment-bytes .ensures .0 ∙ base-bytes _ (b .before .base .ensures) in
     record { fits = omega (arith, base) }
 
 add-result-2 : tie.Need-add-result-2
 add-result-2 c =
-    let b = c .before .before in
+    let w = c .before .before in
+    let b = w .before .before in
     let base = b .segment-bytes .ensures .0 ∙ base-bytes _ (b .before .base .ensures) in
-    let wash = wash-bytes _ _ (c .before .wash .ensures) in
-    record { fits = omega (arith, base, wash, c .segment-bytes2 .ensures .0) }
+    let wash = wash-bytes _ _ (w .before .wash .ensures) in
+    record { fits = omega (arith, base, wash, w .segment-bytes2 .ensures .0) }
+
+add-result-3 : tie.Need-add-result-3
+add-result-3 c =
+    let w = c .before .before in
+    let b = w .before .before in
+    let base = b .segment-bytes .ensures .0 ∙ base-bytes _ (b .before .base .ensures) in
+    let wash = wash-bytes _ _ (w .before .wash .ensures) in
+    let lift = lift-bytes _ _ (c .before .lift .ensures) in
+    record { fits = omega (arith, base, wash, lift, w .segment-bytes2 .ensures .0, c .segment-bytes3 .ensures .0) }
 
 returns : tie.Need-returns
 returns c =
-    let b = c .before .before in
+    let w = c .before .before in
+    let b = w .before .before in
     let base = b .segment-bytes .ensures .0 ∙ ap segmentBytes (b .before .base .ensures) in
-    let wash = c .segment-bytes2 .ensures .0 ∙ ap segmentBytes (c .before .wash .ensures) in (
-      ap₂ (λ (x y : ℕ). headerBytes + x + y) base wash ∙ sym (rows-at-is _),
-      omega (arith, b .segment-bytes .ensures .0 ∙ base-bytes _ (b .before .base .ensures), wash-bytes _ _ (c .before .wash .ensures), c .segment-bytes2 .ensures .0),
+    let wash = w .segment-bytes2 .ensures .0 ∙ ap segmentBytes (w .before .wash .ensures) in
+    let lift = c .segment-bytes3 .ensures .0 ∙ ap segmentBytes (c .before .lift .ensures) in
+    let few-base = b .segment-bytes .ensures .0 ∙ base-bytes _ (b .before .base .ensures) in
+    let few-wash = wash-bytes _ _ (w .before .wash .ensures) in
+    let few-lift = lift-bytes _ _ (c .before .lift .ensures) in (
+      ap₂ (λ (x y : ℕ). x + y) (ap₂ (λ (x y : ℕ). headerBytes + x + y) base wash) lift ∙ sym (rows-at-is _),
+      omega (arith, few-base, few-wash, few-lift, w .segment-bytes2 .ensures .0, c .segment-bytes3 .ensures .0),
     )
 
 pub rows-at-spec : {M : Type 1} → statement M
@@ -50,6 +71,9 @@ rows-at-spec =
     segment-bytes-requires
     wash-requires
     segment-bytes-requires-2
+    lift-requires
+    segment-bytes-requires-3
     add-result
     add-result-2
+    add-result-3
     returns)

@@ -1,7 +1,7 @@
 -- `flight::Flight::is_inside` meets its contract. Assumes nothing.
 use lib.Ieee.{neg, ofBits, round}
-use borrow.Author.Needs.{needs}
 use Rattle.flight.proofs.Inside.{inside-all}
+use borrow.Author.Needs.{needs}
 use Rattle.flight.proofs.Flight.is_inside.Statement.{statement}
 use Rattle.flight.proofs.Flight.is_inside.Tie as tie
 
@@ -29,6 +29,9 @@ slots-inside-requires-2 c κs = search needs
 slots-inside-requires-3 : tie.Need-slots-inside-requires-3
 slots-inside-requires-3 c κs = search needs
 
+slots-inside-requires-4 : tie.Need-slots-inside-requires-4
+slots-inside-requires-4 c κs = search needs
+
 both-requires : tie.Need-both-requires
 both-requires c κs = search needs
 
@@ -47,9 +50,33 @@ both-requires-5 c κs = search needs
 both-requires-6 : tie.Need-both-requires-6
 both-requires-6 c κs = search needs
 
+both-requires-7 : tie.Need-both-requires-7
+both-requires-7 c κs = search needs
+
 returns : tie.Need-returns
 unfolding ofBits round neg
-returns c = simp (inside-all (c .before .before .before .before .before .before .before .before .before .before .before .before .before .before .before .before .before .before .args .self), c .both6 .ensures, c .before .both5 .ensures, c .before .before .both4 .ensures, c .before .before .before .both3 .ensures, c .before .before .before .before .both2 .ensures, c .before .before .before .before .before .both .ensures, c .before .before .before .before .before .before .slots-inside3 .ensures, c .before .before .before .before .before .before .before .slots-inside2 .ensures, c .before .before .before .before .before .before .before .before .slots-inside .ensures, c .before .before .before .before .before .before .before .before .before .is-inside3 .ensures, c .before .before .before .before .before .before .before .before .before .before .inside .ensures, c .before .before .before .before .before .before .before .before .before .before .before .norm-squared .ensures, c .before .before .before .before .before .before .before .before .before .before .before .before .is-inside2 .ensures, c .before .before .before .before .before .before .before .before .before .before .before .before .before .is-inside .ensures)
+returns c =
+    let s = c .before .before .before .before .before .before .before in
+    let b = s .before .before .before .before in
+    simp (
+      inside-all (b .before .before .before .before .before .before .before .before .before .before .args .self),
+      c .both7 .ensures,
+      c .before .both6 .ensures,
+      c .before .before .both5 .ensures,
+      c .before .before .before .both4 .ensures,
+      c .before .before .before .before .both3 .ensures,
+      c .before .before .before .before .before .both2 .ensures,
+      c .before .before .before .before .before .before .both .ensures,
+      s .slots-inside4 .ensures,
+      s .before .slots-inside3 .ensures,
+      s .before .before .slots-inside2 .ensures,
+      s .before .before .before .slots-inside .ensures,
+      b .is-inside3 .ensures,
+      b .before .inside .ensures,
+      b .before .before .norm-squared .ensures,
+      b .before .before .before .is-inside2 .ensures,
+      b .before .before .before .before .is-inside .ensures,
+    )
 
 pub is-inside-spec : {M : Type 1} → statement M
 is-inside-spec =
@@ -63,10 +90,12 @@ is-inside-spec =
     slots-inside-requires
     slots-inside-requires-2
     slots-inside-requires-3
+    slots-inside-requires-4
     both-requires
     both-requires-2
     both-requires-3
     both-requires-4
     both-requires-5
     both-requires-6
+    both-requires-7
     returns)

@@ -1,7 +1,7 @@
 -- `flight::Flight::outside` meets its contract. Assumes nothing.
 use lib.Ieee.{neg, ofBits, round}
-use borrow.Author.Needs.{needs}
 use Rattle.flight.specs.Envelope.{outsideOf}
+use borrow.Author.Needs.{needs}
 use Rattle.flight.proofs.Flight.outside.Statement.{statement}
 use Rattle.flight.proofs.Flight.outside.Tie as tie
 
@@ -44,6 +44,12 @@ slots-outside-requires-3 c κs = search needs
 after-requires-6 : tie.Need-after-requires-6
 after-requires-6 c κs = search needs
 
+slots-outside-requires-4 : tie.Need-slots-outside-requires-4
+slots-outside-requires-4 c κs = search needs
+
+after-requires-7 : tie.Need-after-requires-7
+after-requires-7 c κs = search needs
+
 or-else-requires : tie.Need-or-else-requires
 or-else-requires c κs = search needs
 
@@ -62,9 +68,38 @@ or-else-requires-5 c κs = search needs
 or-else-requires-6 : tie.Need-or-else-requires-6
 or-else-requires-6 c κs = search needs
 
+or-else-requires-7 : tie.Need-or-else-requires-7
+or-else-requires-7 c κs = search needs
+
 returns : tie.Need-returns
 unfolding outsideOf ofBits round neg
-returns c = simp (c .or-else6 .ensures, c .before .or-else5 .ensures, c .before .before .or-else4 .ensures, c .before .before .before .or-else3 .ensures, c .before .before .before .before .or-else2 .ensures, c .before .before .before .before .before .or-else .ensures, c .before .before .before .before .before .before .after6 .ensures, c .before .before .before .before .before .before .before .slots-outside3 .ensures .0, c .before .before .before .before .before .before .before .before .after5 .ensures, c .before .before .before .before .before .before .before .before .before .slots-outside2 .ensures .0, c .before .before .before .before .before .before .before .before .before .before .after4 .ensures, c .before .before .before .before .before .before .before .before .before .before .before .slots-outside .ensures .0, c .before .before .before .before .before .before .before .before .before .before .before .before .after3 .ensures, c .before .before .before .before .before .before .before .before .before .before .before .before .before .vec-outside3 .ensures .0, c .before .before .before .before .before .before .before .before .before .before .before .before .before .before .after2 .ensures, c .before .before .before .before .before .before .before .before .before .before .before .before .before .before .before .attitude-outside .ensures .0, c .before .before .before .before .before .before .before .before .before .before .before .before .before .before .before .before .after .ensures, c .before .before .before .before .before .before .before .before .before .before .before .before .before .before .before .before .before .vec-outside2 .ensures .0, c .before .before .before .before .before .before .before .before .before .before .before .before .before .before .before .before .before .before .vec-outside .ensures .0)
+returns c =
+    let p = c .before .before .before .before .before .before .before in
+    let b = p .before .before .before .before .before .before .before .before in
+    simp (
+      c .or-else7 .ensures,
+      c .before .or-else6 .ensures,
+      c .before .before .or-else5 .ensures,
+      c .before .before .before .or-else4 .ensures,
+      c .before .before .before .before .or-else3 .ensures,
+      c .before .before .before .before .before .or-else2 .ensures,
+      c .before .before .before .before .before .before .or-else .ensures,
+      p .after7 .ensures,
+      p .before .slots-outside4 .ensures .0,
+      p .before .before .after6 .ensures,
+      p .before .before .before .slots-outside3 .ensures .0,
+      p .before .before .before .before .after5 .ensures,
+      p .before .before .before .before .before .slots-outside2 .ensures .0,
+      p .before .before .before .before .before .before .after4 .ensures,
+      p .before .before .before .before .before .before .before .slots-outside .ensures .0,
+      b .after3 .ensures,
+      b .before .vec-outside3 .ensures .0,
+      b .before .before .after2 .ensures,
+      b .before .before .before .attitude-outside .ensures .0,
+      b .before .before .before .before .after .ensures,
+      b .before .before .before .before .before .vec-outside2 .ensures .0,
+      b .before .before .before .before .before .before .vec-outside .ensures .0,
+    )
 
 pub outside-spec : {M : Type 1} → statement M
 outside-spec =
@@ -83,10 +118,13 @@ outside-spec =
     after-requires-5
     slots-outside-requires-3
     after-requires-6
+    slots-outside-requires-4
+    after-requires-7
     or-else-requires
     or-else-requires-2
     or-else-requires-3
     or-else-requires-4
     or-else-requires-5
     or-else-requires-6
+    or-else-requires-7
     returns)

@@ -13,6 +13,9 @@ same-slots-requires-2 c κs = search needs
 same-slots-requires-3 : tie.Need-same-slots-requires-3
 same-slots-requires-3 c κs = search needs
 
+same-slots-requires-4 : tie.Need-same-slots-requires-4
+same-slots-requires-4 c κs = search needs
+
 same-body-requires : tie.Need-same-body-requires
 same-body-requires c κs = search needs
 
@@ -25,9 +28,24 @@ both-requires-2 c κs = search needs
 both-requires-3 : tie.Need-both-requires-3
 both-requires-3 c κs = search needs
 
+both-requires-4 : tie.Need-both-requires-4
+both-requires-4 c κs = search needs
+
 returns : tie.Need-returns
 unfolding sameFlight
-returns c = simp (c .both3 .ensures, c .before .both2 .ensures, c .before .before .both .ensures, c .before .before .before .same-body .ensures, c .before .before .before .before .same-slots3 .ensures, c .before .before .before .before .before .same-slots2 .ensures, c .before .before .before .before .before .before .same-slots .ensures)
+returns c =
+    let s = c .before .before .before .before in
+    simp (
+      c .both4 .ensures,
+      c .before .both3 .ensures,
+      c .before .before .both2 .ensures,
+      c .before .before .before .both .ensures,
+      s .same-body .ensures,
+      s .before .same-slots4 .ensures,
+      s .before .before .same-slots3 .ensures,
+      s .before .before .before .same-slots2 .ensures,
+      s .before .before .before .before .same-slots .ensures,
+    )
 
 pub same-flight-spec : {M : Type 1} → statement M
 same-flight-spec =
@@ -36,8 +54,10 @@ same-flight-spec =
     same-slots-requires
     same-slots-requires-2
     same-slots-requires-3
+    same-slots-requires-4
     same-body-requires
     both-requires
     both-requires-2
     both-requires-3
+    both-requires-4
     returns)

@@ -1,6 +1,6 @@
 -- `motors::MotorGroup::put` meets its contract. Assumes nothing.
-use borrow.Author.Needs.{needs}
 use Rattle.motors.specs.Motor.{putAt, putOf}
+use borrow.Author.Needs.{needs}
 use Rattle.motors.proofs.MotorGroup.put.Statement.{statement}
 use Rattle.motors.proofs.MotorGroup.put.Tie as tie
 
@@ -19,6 +19,9 @@ put-motor-requires c κs = search needs
 enum-told : tie.Need-enum-told
 enum-told c = search needs
 
+enum-told-2 : tie.Need-enum-told-2
+enum-told-2 c = search needs
+
 returns : tie.Need-returns
 unfolding putOf putAt
 returns c = simp (c .put-motor .ensures, c .before .torque .ensures, c .before .before .before .slot .given .1)
@@ -26,6 +29,10 @@ returns c = simp (c .put-motor .ensures, c .before .torque .ensures, c .before .
 returns-2 : tie.Need-returns-2
 unfolding putOf putAt
 returns-2 c = simp (c .enum-told .given .1)
+
+returns-3 : tie.Need-returns-3
+unfolding putOf putAt
+returns-3 c = simp (c .enum-told2 .given .1)
 
 pub put-spec : {M : Type 1} → statement M
 put-spec =
@@ -36,5 +43,7 @@ put-spec =
     torque-requires
     put-motor-requires
     enum-told
+    enum-told-2
     returns
-    returns-2)
+    returns-2
+    returns-3)

@@ -1,0 +1,2 @@
+-- Laws of the lift rotors.
+pub mod Mirror

@@ -1,0 +1,2 @@
+-- The lift rotors. Definitions only.
+pub mod Lift

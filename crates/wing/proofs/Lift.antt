@@ -1,0 +1,123 @@
+-- The lift rotors in a tick (02, 5). Without lift numbers a tick is the one it was: its loads are those of aerodynamics and forward thrust alone, it hands the lift rotors' values back as given, and with other accepted ones its answer, its report and
+-- all other numbers are the same. Assumes nothing.
+use lib.Dec.{eqb}
+use lib.Ieee.{Float}
+use mathlib.Core.Bool.{Bool, cond, false, true}
+use mathlib.Core.List.{List}
+use mathlib.Core.Path.{_∙_, _≡_, ap, refl}
+use Rattle.airframe.specs.Acceptance.{refusedPlace}
+use Rattle.airframe.specs.declared.Airframe.{Airframe}
+use Rattle.answers.specs.declared.Answer.{Answer}
+use Rattle.answers.specs.declared.Answer.the-variants.{Departure, NumberOutOfRange, StateOutside, StepOutside, WindUnusable}
+use Rattle.body.specs.declared.Body.{Body}
+use Rattle.flight.specs.Envelope.{isInside, outsideOf, slotsOutside}
+use Rattle.flight.specs.declared.Flight.{Flight}
+use Rattle.flight.specs.declared.Tick.{Tick}
+use Rattle.float.proofs.Mirror.{by-test}
+use Rattle.float.specs.Interval.{inside}
+use Rattle.float.specs.Notation.{_⊗_, nought, one}
+use Rattle.lag.specs.Lag.{stepLeast, stepMost}
+use Rattle.motors.specs.Motor.{lagFactor}
+use Rattle.motors.specs.declared.MotorWrench.{MotorWrench}
+use Rattle.surfaces.specs.declared.Surfaces.{Surfaces}
+use Rattle.vector.specs.Rotation.{rotateOf}
+use Rattle.vector.specs.Vector.{addOf, vec, zeroVec}
+use Rattle.vector.specs.declared.Vec3.{Vec3}
+use Rattle.wing.proofs.Passed.{of-tick}
+use Rattle.wing.proofs.Range.{lift-unmoved, next-lift}
+use Rattle.wing.specs.Contracts.{liftFactor}
+use Rattle.wing.specs.Loads.{aeroOf, airOf, loadedBy, loadsOf, loadsUnder, motorsFor, pullOf, surfacesFor, withLift, withThrust}
+use Rattle.wing.specs.Tick.{acceptedTick, airDensity, liftSpun, liftedOf, movedOf, nextFrom, nextOf, refusedOf, spunOf, steppedOf, tickOf, unlessDeparted, windUsable}
+use Rattle.wing.specs.declared.Loaded.{Loaded}
+use Rattle.wing.specs.declared.Ticked.{Ticked}
+
+-- the factor that the code keeps, which is 0 without lift numbers, serves as the lag's own
+pub held-factor : (a : Airframe) (f : Flight) (commands : List Float) (h : Float) → liftSpun a f commands (liftFactor a h) ≡ liftedOf a f commands h
+unfolding liftedOf liftSpun liftFactor
+held-factor a f commands h = go (a .«lift_present») refl
+  where
+    go : (t : Bool) → a .«lift_present» ≡ t → liftSpun a f commands (liftFactor a h) ≡ liftSpun a f commands (lagFactor (a .lift .motors) h)
+    go true p = rw p refl
+    go false p = rw p refl
+
+-- ---- without lift numbers: the loads as they were
+abbrev pub unliftedUnder : Airframe → MotorWrench → Surfaces → Body → Vec3 → Float → Loaded
+unliftedUnder a pull surfaces b air density =
+    let aero = aeroOf a (pull .«thrust_n») surfaces b air density in
+    record {
+      loads = record {
+        «force_ned_n» = rotateOf (b .attitude) (addOf (aero .«force_n») (vec (pull .«thrust_n») nought nought));
+        «torque_nm» = addOf (addOf (aero .«torque_nm») (pull .«torque_nm»)) (vec nought (pull .«thrust_n» ⊗ a .model .«thrust_line_below_cg_m») nought);
+        «damping_nm» = zeroVec;
+      };
+      «alpha_rad» = aero .«alpha_rad»;
+      «beta_rad» = aero .«beta_rad»;
+      «thrust_n» = pull .«thrust_n»;
+    }
+
+module _ (a : Airframe) (p : a .«lift_present» ≡ false) where
+  pub loads-unlifted : (pull : MotorWrench) (surfaces : Surfaces) (lifting : List Float) (b : Body) (air : Vec3) (density : Float) → loadsUnder a pull surfaces lifting b air density ≡ unliftedUnder a pull surfaces b air density
+  unfolding loadsUnder loadedBy withLift withThrust
+  loads-unlifted pull surfaces lifting b air density = rw p refl
+
+  -- the values of the lift rotors stay, refused or not
+  pub lift-stays : (f : Flight) (t : Tick) → tickOf a f t .flight .«lift_motors» ≡ f .«lift_motors»
+  unfolding refusedOf
+  lift-stays f t = of-tick (λ (k : Ticked). k .flight .«lift_motors» ≡ f .«lift_motors») a f t (λ x n. refl) (λ q. next-lift a f t ∙ lift-unmoved a f t p)
+
+  -- the next state by the loads as they were
+  abbrev pub nextUnlifted : Flight → Tick → Ticked
+  nextUnlifted f t =
+      let h = t .«step_s» in
+      let surfaces = movedOf a f (t .servos) h in
+      let motors = spunOf a f (t .motors) h in
+      let air = airOf (f .body) (t .«wind_ned_mps») in
+      steppedOf (a .model) f (motors .running) (surfaces .running) (f .«lift_motors») (unliftedUnder a (pullOf (a .model) motors air) surfaces (f .body) air airDensity) h
+
+  next-unlifted : (f : Flight) (t : Tick) → nextOf a f t ≡ nextUnlifted f t
+  unfolding nextOf nextFrom liftedOf liftSpun loadsOf loadsUnder loadedBy withLift withThrust
+  next-unlifted f t = rw p refl
+
+  pub tick-unlifted : (f : Flight) (t : Tick) → tickOf a f t ≡ cond (eqb (refusedPlace a) 0) (acceptedTick f t (nextUnlifted f t)) (refusedOf (NumberOutOfRange (refusedPlace a)) f)
+  unfolding tickOf
+  tick-unlifted f t = ap (λ (n : Ticked). cond (eqb (refusedPlace a) 0) (acceptedTick f t n) (refusedOf (NumberOutOfRange (refusedPlace a)) f)) (next-unlifted f t)
+
+-- ---- and with other values of the lift rotors, accepted ones, all else is the same
+abbrev pub lifting : Flight → List Float → Flight
+lifting f xs = record { body = f .body; motors = f .motors; servos = f .servos; «thrust_scale» = f .«thrust_scale»; «lift_motors» = xs }
+
+abbrev pub handing : List Float → Ticked → Ticked
+handing xs k = record { report = k .report; flight = lifting (k .flight) xs }
+
+module _ (a : Airframe) (p : a .«lift_present» ≡ false) (xs : List Float) (e : slotsOutside nought one xs ≡ 0) where
+  abbrev Hands : Ticked → Ticked → Type 0
+  Hands k k' = k' ≡ handing xs k
+
+  inside-too : (f : Flight) → slotsOutside nought one (f .«lift_motors») ≡ 0 → isInside (lifting f xs) ≡ isInside f
+  unfolding isInside outsideOf
+  inside-too f o = rw (e, o) refl
+
+  next-too : (f : Flight) (t : Tick) → nextUnlifted a p (lifting f xs) t ≡ handing xs (nextUnlifted a p f t)
+  unfolding steppedOf movedOf surfacesFor spunOf motorsFor
+  next-too f t = refl
+
+  refused-too : (x : Answer) (f : Flight) → Hands (refusedOf x f) (refusedOf x (lifting f xs))
+  unfolding refusedOf
+  refused-too x f = refl
+
+  accepted-too : (f : Flight) (t : Tick) (n n' : Ticked) → slotsOutside nought one (f .«lift_motors») ≡ 0 → slotsOutside nought one (n .flight .«lift_motors») ≡ 0 → Hands n n' → Hands (acceptedTick f t n) (acceptedTick (lifting f xs) t n')
+  unfolding acceptedTick unlessDeparted
+  accepted-too f t n n' o q h =
+      by-test Hands (isInside f) (isInside (lifting f xs)) (inside-too f o)
+      (λ u. by-test Hands (inside stepLeast stepMost (t .«step_s»)) (inside stepLeast stepMost (t .«step_s»)) refl
+      (λ v. by-test Hands (windUsable (t .«wind_ned_mps»)) (windUsable (t .«wind_ned_mps»)) refl
+      (λ w. by-test Hands (isInside (n .flight)) (isInside (n' .flight)) (ap (λ (k : Ticked). isInside (k .flight)) h ∙ inside-too (n .flight) q) (λ z. h) (λ z. refused-too Departure f))
+      (λ w. refused-too WindUnusable f))
+      (λ v. refused-too StepOutside f))
+      (λ u. refused-too StateOutside f)
+
+  pub lift-apart : (f : Flight) (t : Tick) → slotsOutside nought one (f .«lift_motors») ≡ 0 → tickOf a (lifting f xs) t ≡ handing xs (tickOf a f t)
+  unfolding steppedOf
+  lift-apart f t o =
+      rw (tick-unlifted a p (lifting f xs) t, tick-unlifted a p f t)
+      (by-test Hands (eqb (refusedPlace a) 0) (eqb (refusedPlace a) 0) refl (λ u. accepted-too f t _ _ o o (next-too f t)) (λ u. refused-too (NumberOutOfRange (refusedPlace a)) f))
