@@ -117,9 +117,9 @@ vectorsOutside limit place vs = cond (eqb (firstFail (slotVecInside limit vs) 0 
 unfoldable pub liftTorquesOutside : Bool → List Vec3 → ℕ
 liftTorquesOutside present torques = cond present (vectorsOutside (rounded 100 1) 58 torques) 0
 
--- ---- the parts in the order of their places: the first that is out of range tells its place
-unfoldable pub firstRefused : List Float → ThrustFalloff → Bool → Bool → List Vec3 → List Vec3 → Bool → List Vec3 → ℕ
-firstRefused numbers falloff wash rows torques weights lift liftTorques =
+-- ---- the parts in the order of their places: the first that is out of range tells its place; what is said of the lift torques, last
+unfoldable pub firstRefused : List Float → ThrustFalloff → Bool → Bool → List Vec3 → List Vec3 → Bool → ℕ → ℕ
+firstRefused numbers falloff wash rows torques weights lift liftTorque =
     firstOf
     (segmentOutside (limitsFor falloff) numbers baseSegment
     ∷ segmentOutside (limitsFor falloff) numbers (washSegment wash)
@@ -127,14 +127,15 @@ firstRefused numbers falloff wash rows torques weights lift liftTorques =
     ∷ vectorsOutside (rounded 100 1) 50 torques
     ∷ vectorsOutside (rounded 101 1) 51 weights
     ∷ segmentOutside (limitsFor falloff) numbers (liftSegment lift)
-    ∷ liftTorquesOutside lift liftTorques
+    ∷ liftTorque
     ∷ [])
 
 -- of an airframe whose rows' factors all fit, or not
 unfoldable pub lowestPlace : Bool → Airframe → ℕ
 lowestPlace rows a =
     firstRefused (numbersOf a) (a .model .«thrust_falloff») (a .«wash_present») rows (a .motors .«torque_per_thrust_m») (a .weights)
-    (a .«lift_present») (a .lift .motors .«torque_per_thrust_m»)
+    (a .«lift_present»)
+    (liftTorquesOutside (a .«lift_present») (a .lift .motors .«torque_per_thrust_m»))
 
 -- of an airframe that is not of a block: it has no rows
 unfoldable pub refusedPlace : Airframe → ℕ

@@ -2,3 +2,4 @@
 pub mod Numbers
 pub mod Acceptance
 pub mod Reflection
+pub mod Contracts

@@ -3,6 +3,7 @@
 ghost use mathlib.Core.Path.{_≡_};
 ghost use Prim.Native.Nat.{_+_, _≤_};
 ghost use Rattle.airframe.specs.Acceptance as Acceptance;
+ghost use Rattle.airframe.specs.Contracts as Contracts;
 ghost use Rattle.airframe.specs.Numbers as Numbers;
 ghost use Rattle.airframe.specs.Reflection as Reflection;
 ghost use Rattle.ordered.specs.Contracts.{allPass};
@@ -28,6 +29,14 @@ pub struct Airframe {
     // Whether there are lift numbers (02, 5); where not, `lift` is not looked at.
     pub lift_present: bool,
     pub lift: LiftRotors,
+}
+
+// The constants of the lags: the motors' (place 39), the servos' (34) and, where there are lift numbers, the lift rotors' (56).
+pub struct LagConstants {
+    pub motor_s: f32,
+    pub servo_s: f32,
+    pub lift_present: bool,
+    pub lift_s: f32,
 }
 
 // The numbers stand in segments: those that every airframe has, the wash's and the lift rotors'.
@@ -235,15 +244,16 @@ impl Airframe {
         let lift = self.lift;
         let rotors = lift.motors;
         let lift_torques = rotors.torque_per_thrust_m;
+        let lift_torque = lift_torques_outside(self.lift_present, lift_torques);
         first_refused(
-            numbers,
+            &numbers,
             falloff,
             self.wash_present,
             rows_fit,
             torques,
             weights,
             self.lift_present,
-            lift_torques,
+            lift_torque,
         )
     }
 
@@ -253,20 +263,36 @@ impl Airframe {
     {
         self.lowest_place(true)
     }
+
+    pub fn lag_constants(self) -> LagConstants
+        ensures { λ r. ⌜ r ≡ Contracts.lagConstantsOf self ⌝ }
+    {
+        let m = self.model;
+        let motors = self.motors;
+        let lift = self.lift;
+        let rotors = lift.motors;
+        LagConstants {
+            motor_s: motors.time_constant_s,
+            servo_s: m.servo_time_constant_s,
+            lift_present: self.lift_present,
+            lift_s: rotors.time_constant_s,
+        }
+    }
 }
 
-// The lowest place out of range of an airframe's parts, in the order of their places.
+// The lowest place out of range of an airframe's parts, in the order of their places. `lift_torque` is what `lift_torques_outside`
+// says.
 pub fn first_refused(
-    numbers: [f32; NUMBERS],
+    numbers: &[f32; NUMBERS],
     falloff: ThrustFalloff,
     wash_present: bool,
     rows_fit: bool,
     torques: [Vec3; 8],
     weights: [Vec3; 8],
     lift_present: bool,
-    lift_torques: [Vec3; 8],
+    lift_torque: u32,
 ) -> u32
-    ensures { λ r. ⌜ r ≡ Acceptance.firstRefused numbers falloff «wash_present» «rows_fit» torques weights «lift_present» «lift_torques» ⌝ }
+    ensures { λ r. ⌜ r ≡ Acceptance.firstRefused (now (numbers .entry)) falloff «wash_present» «rows_fit» torques weights «lift_present» «lift_torque» ⌝ }
 {
     let limits = limits_for(falloff);
     let base = segment_outside(numbers, limits, Segment::base());
@@ -275,7 +301,6 @@ pub fn first_refused(
     let torque = vectors_outside(torques, 100.0, 50);
     let weight = vectors_outside(weights, 101.0, 51);
     let lift = segment_outside(numbers, limits, Segment::lift(lift_present));
-    let lift_torque = lift_torques_outside(lift_present, lift_torques);
     let lifted = ordered::or_else(lift, lift_torque);
     let made = ordered::or_else(torque, ordered::or_else(weight, lifted));
     let others = ordered::or_else(rows, made);
@@ -283,7 +308,7 @@ pub fn first_refused(
 }
 
 // Without lift numbers the lift rotors' torques are not tested.
-fn lift_torques_outside(present: bool, torques: [Vec3; 8]) -> u32
+pub fn lift_torques_outside(present: bool, torques: [Vec3; 8]) -> u32
     ensures { λ r. ⌜ r ≡ Acceptance.liftTorquesOutside present torques ⌝ }
 {
     if present {
@@ -324,13 +349,13 @@ pub fn limits_for(falloff: ThrustFalloff) -> [Limits; NUMBERS]
 
 // Whether `count` numbers from the index `first` on lie within their limits: all are looked at, with no way out between them.
 fn numbers_inside(
-    numbers: [f32; NUMBERS],
+    numbers: &[f32; NUMBERS],
     limits: [Limits; NUMBERS],
     first: usize,
     count: usize,
 ) -> bool
     requires { ⌜ first + count ≤ Numbers.numbersCount ⌝ }
-    ensures { λ r. ⌜ r ≡ allPass (Acceptance.insideFrom limits numbers first) count ⌝ }
+    ensures { λ r. ⌜ r ≡ allPass (Acceptance.insideFrom limits (now (numbers .entry)) first) count ⌝ }
 {
     let mut ok = true;
     let mut i = 0usize;
@@ -344,13 +369,13 @@ fn numbers_inside(
 
 // The first of them outside its limits, counted from 1; 0 for none.
 fn first_outside(
-    numbers: [f32; NUMBERS],
+    numbers: &[f32; NUMBERS],
     limits: [Limits; NUMBERS],
     first: usize,
     count: usize,
 ) -> u32
     requires { ⌜ first + count ≤ Numbers.numbersCount ⌝ }
-    ensures { λ r. ⌜ r ≡ firstFail (Acceptance.insideFrom limits numbers first) 0 count ⌝ ∗ ⌜ r ≤ Numbers.numbersCount ⌝ }
+    ensures { λ r. ⌜ r ≡ firstFail (Acceptance.insideFrom limits (now (numbers .entry)) first) 0 count ⌝ ∗ ⌜ r ≤ Numbers.numbersCount ⌝ }
 {
     if numbers_inside(numbers, limits, first, count) {
         return 0;
@@ -367,9 +392,9 @@ fn first_outside(
 }
 
 // The lowest place of a segment whose number is outside its limits; 0 for none, and where the segment is absent.
-fn segment_outside(numbers: [f32; NUMBERS], limits: [Limits; NUMBERS], s: Segment) -> u32
+fn segment_outside(numbers: &[f32; NUMBERS], limits: [Limits; NUMBERS], s: Segment) -> u32
     requires { ⌜ s .first + s .count ≤ Numbers.numbersCount ⌝ ∗ ⌜ 1 ≤ s .place ⌝ ∗ ⌜ s .place ≤ 1000 ⌝ }
-    ensures { λ r. ⌜ r ≡ Acceptance.segmentOutside limits numbers s ⌝ }
+    ensures { λ r. ⌜ r ≡ Acceptance.segmentOutside limits (now (numbers .entry)) s ⌝ }
 {
     if s.present {
         return ordered::after(

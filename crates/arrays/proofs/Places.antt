@@ -6,7 +6,7 @@ use lib.Ieee.{Float}
 use mathlib.Core.Bool.{Bool, cond, false, true}
 use mathlib.Core.List.{List}
 use mathlib.Core.Path.{_∙_, _≡_, ap, refl}
-use Rattle.airframe.specs.Acceptance.{firstRefused, lowestPlace, refusedPlace}
+use Rattle.airframe.specs.Acceptance.{firstRefused, liftTorquesOutside, lowestPlace, refusedPlace}
 use Rattle.airframe.specs.Numbers.{baseNumbers, coefficientNumbers, falloffNumber, liftFirst, liftNumbers, numbersCount, numbersOf, washNumbers}
 use Rattle.airframe_block.specs.Block.{coefficientsOf, falloffOf, layoutOf, liftLayoutOf, modelOf, place, washFrom}
 use Rattle.fixed_wing.specs.declared.ThrustFalloff.the-variants.{Linear, PitchSpeed}
@@ -41,7 +41,7 @@ array-places xs = ap (λ (x : Float). replaced xs x) (falloff-number (kindOf (at
 
 -- test 6 by the array's numbers, ns being those by place
 abbrev pub tests : List Float → List Float → ℕ
-tests xs ns = firstRefused ns (falloffOf (kindOf (at xs kindAt)) (place (placesIn xs) 37)) (isSet (at xs washAt)) true (vecsIn xs torquesAt) (vecsIn xs weightsAt) (isSet (at xs liftPresentAt)) (vecsIn xs liftTorquesAt)
+tests xs ns = firstRefused ns (falloffOf (kindOf (at xs kindAt)) (place (placesIn xs) 37)) (isSet (at xs washAt)) true (vecsIn xs torquesAt) (vecsIn xs weightsAt) (isSet (at xs liftPresentAt)) (liftTorquesOutside (isSet (at xs liftPresentAt)) (vecsIn xs liftTorquesAt))
 
 tested : (xs : List Float) → refusedPlace (airframeIn xs) ≡ tests xs (numbersOf (airframeIn xs))
 unfolding refusedPlace lowestPlace airframeIn groupIn liftIn modelOf

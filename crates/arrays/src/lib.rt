@@ -3,12 +3,14 @@
 ghost use mathlib.Core.Path.{_≡_};
 ghost use Prim.Native.Nat.{_+_, _<_, _≤_};
 ghost use lib.ListN.{length};
-ghost use Rattle.airframe.specs.Acceptance.{refusedPlace};
+ghost use Rattle.airframe.specs.Acceptance.{liftTorquesOutside, refusedPlace};
+ghost use Rattle.airframe.specs.Contracts.{lagConstantsOf};
 ghost use Rattle.airframe.specs.Numbers.{numbersCount, numbersOf};
 ghost use Rattle.mixers.specs.Slots.{at, flagAt};
 ghost use Rattle.arrays.specs.Flight as FlightArray;
 ghost use Rattle.arrays.specs.Airframe as AirframeArray;
 use airframe::Airframe;
+use airframe::LagConstants;
 use airframe::NUMBERS;
 use body::Body;
 use fixed_wing::ThrustFalloff;
@@ -402,17 +404,42 @@ pub fn refused_place(xs: &[f32]) -> u32
     let torques = vecs_in(xs, TORQUES_AT);
     let weights = vecs_in(xs, WEIGHTS_AT);
     let lift_present = is_set(xs[LIFT_PRESENT_AT]);
-    let lift_torques = vecs_in(xs, LIFT_TORQUES_AT);
+    let lift_torque = lift_torques_outside(xs, lift_present);
     airframe::first_refused(
-        places,
+        &places,
         falloff,
         wash_present,
         true,
         torques,
         weights,
         lift_present,
-        lift_torques,
+        lift_torque,
     )
+}
+
+// What is out of range among the lift rotors' torques, which are read only where they are tested.
+fn lift_torques_outside(xs: &[f32], present: bool) -> u32
+    requires { do ⌜ AirframeArray.airframeNumbersCount ≤ (← ⟦xs.len()⟧) ⌝ }
+    ensures { λ r. ⌜ r ≡ liftTorquesOutside present (AirframeArray.vecsIn (now (xs .entry)) AirframeArray.liftTorquesAt) ⌝ }
+{
+    if present {
+        return airframe::lift_torques_outside(present, vecs_in(xs, LIFT_TORQUES_AT));
+    }
+    0
+}
+
+// The constants of the lags of the airframe of an array.
+pub fn lag_constants_in(xs: &[f32]) -> LagConstants
+    requires { do ⌜ AirframeArray.airframeNumbersCount ≤ (← ⟦xs.len()⟧) ⌝ }
+    ensures { λ r. ⌜ r ≡ lagConstantsOf (AirframeArray.airframeIn (now (xs .entry))) ⌝ }
+{
+    let lift_present = is_set(xs[LIFT_PRESENT_AT]);
+    LagConstants {
+        motor_s: xs[38],
+        servo_s: xs[33],
+        lift_present,
+        lift_s: xs[LIFT_NUMBERS_AT + 4],
+    }
 }
 
 fn flag_number(b: bool) -> f32

@@ -198,16 +198,16 @@ fn ticked_by(read: AirframeRead, f: Flight, t: Tick) -> Ticked
     wing::refused(answer, f)
 }
 
-// The tick of an airframe in its array, which is tested where it stands.
+// The tick of an airframe in its array, which is tested where it stands, and read after the lag factors are made.
 fn ticked_prepared(airframe: &[f32], f: Flight, t: Tick) -> Ticked
     requires { do ⌜ airframeNumbersCount ≤ (← ⟦airframe.len()⟧) ⌝ }
     ensures { λ r. ⌜ r ≡ tickOf (airframeIn (now (airframe .entry))) f t ⌝ }
 {
     let place = arrays::refused_place(airframe);
     if place == 0 {
-        let a = arrays::airframe_in(airframe);
         let powers = libm::powers_of_two();
-        let lags = wing::begin(a, t.step_s, &powers);
+        let lags = wing::begin_by(arrays::lag_constants_in(airframe), t.step_s, &powers);
+        let a = arrays::airframe_in(airframe);
         return wing::tick_accepted(a, f, t, lags, &powers);
     }
     wing::refused(Answer::NumberOutOfRange(place), f)

@@ -118,14 +118,6 @@ impl MotorGroup {
         self
     }
 
-    // f of module 2. `powers` is libm's table.
-    pub fn lag_factor(self, step_s: f32, powers: &[f32; POWER_COUNT]) -> f32
-        requires { ⌜ now powers ≡ powersOfTwo ⌝ }
-        ensures { λ r. ⌜ r ≡ Motor.lagFactor self «step_s» ⌝ }
-    {
-        lag::factor(step_s, self.time_constant_s, powers)
-    }
-
     // The reflection of left and right: roll and yaw of the torques negated.
     pub fn reflected(mut self) -> Self
         ensures { λ r. ⌜ r ≡ Reflection.reflectGroup self ⌝ }

@@ -1,11 +1,13 @@
--- The lift rotors in a tick (02, 5). Without lift numbers a tick is the one it was: its loads are those of aerodynamics and forward thrust alone, it hands the lift rotors' values back as given, and with other accepted ones its answer, its report and
--- all other numbers are the same. Assumes nothing.
+-- The lift rotors in a tick (02, 5). Without lift numbers a tick is the one it was: its loads are those of aerodynamics and forward
+-- thrust alone, it hands the lift rotors' values back as given, and with other accepted ones its answer, its report and all other
+-- numbers are the same. Assumes nothing.
 use lib.Dec.{eqb}
 use lib.Ieee.{Float}
 use mathlib.Core.Bool.{Bool, cond, false, true}
 use mathlib.Core.List.{List}
 use mathlib.Core.Path.{_∙_, _≡_, ap, refl}
 use Rattle.airframe.specs.Acceptance.{refusedPlace}
+use Rattle.airframe.specs.Contracts.{lagConstantsOf}
 use Rattle.airframe.specs.declared.Airframe.{Airframe}
 use Rattle.answers.specs.declared.Answer.{Answer}
 use Rattle.answers.specs.declared.Answer.the-variants.{Departure, NumberOutOfRange, StateOutside, StepOutside, WindUnusable}
@@ -25,18 +27,18 @@ use Rattle.vector.specs.Vector.{addOf, vec, zeroVec}
 use Rattle.vector.specs.declared.Vec3.{Vec3}
 use Rattle.wing.proofs.Passed.{of-tick}
 use Rattle.wing.proofs.Range.{lift-unmoved, next-lift}
-use Rattle.wing.specs.Contracts.{liftFactor}
+use Rattle.wing.specs.Contracts.{beginBy, beginOf, liftFactor}
 use Rattle.wing.specs.Loads.{aeroOf, airOf, loadedBy, loadsOf, loadsUnder, motorsFor, pullOf, surfacesFor, withLift, withThrust}
 use Rattle.wing.specs.Tick.{acceptedTick, airDensity, liftSpun, liftedOf, movedOf, nextFrom, nextOf, refusedOf, spunOf, steppedOf, tickOf, unlessDeparted, windUsable}
 use Rattle.wing.specs.declared.Loaded.{Loaded}
 use Rattle.wing.specs.declared.Ticked.{Ticked}
 
 -- the factor that the code keeps, which is 0 without lift numbers, serves as the lag's own
-pub held-factor : (a : Airframe) (f : Flight) (commands : List Float) (h : Float) → liftSpun a f commands (liftFactor a h) ≡ liftedOf a f commands h
-unfolding liftedOf liftSpun liftFactor
+pub held-factor : (a : Airframe) (f : Flight) (commands : List Float) (h : Float) → liftSpun a f commands (beginOf a h .lift) ≡ liftedOf a f commands h
+unfolding liftedOf liftSpun liftFactor beginBy lagConstantsOf lagFactor
 held-factor a f commands h = go (a .«lift_present») refl
   where
-    go : (t : Bool) → a .«lift_present» ≡ t → liftSpun a f commands (liftFactor a h) ≡ liftSpun a f commands (lagFactor (a .lift .motors) h)
+    go : (t : Bool) → a .«lift_present» ≡ t → liftSpun a f commands (beginOf a h .lift) ≡ liftSpun a f commands (lagFactor (a .lift .motors) h)
     go true p = rw p refl
     go false p = rw p refl
 

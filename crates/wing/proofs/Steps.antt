@@ -4,23 +4,21 @@ use lib.Ieee.{Float, binary32, fits, ofBits, toBits}
 use lib.Ieee.Bits.{ofBits-toBits}
 use mathlib.Core.Path.{_∙_, _≡_, ap, sym}
 use Rattle.airframe.specs.declared.Airframe.{Airframe}
-use Rattle.lag.specs.Lag.{factorOf}
-use Rattle.motors.specs.Motor.{lagFactor}
-use Rattle.wing.specs.Contracts.{OfTheirStep, beginOf, liftFactor}
+use Rattle.wing.specs.Contracts.{OfTheirStep, beginBy, beginOf}
 use Rattle.wing.specs.declared.LagFactors.{LagFactors}
 
 module _ (a : Airframe) where
   abbrev motor : Float → Float
-  motor x = lagFactor (a .motors) x
+  motor x = beginOf a x .motor
 
   abbrev servo : Float → Float
-  servo x = factorOf x (a .model .«servo_time_constant_s»)
+  servo x = beginOf a x .servo
 
   abbrev lift : Float → Float
-  lift x = liftFactor a x
+  lift x = beginOf a x .lift
 
   pub begin-held : (held : LagFactors) (h : Float) → T (fits binary32 h) → toBits binary32 h ≡ held .«step_bits» → OfTheirStep a held → held ≡ beginOf a h
-  unfolding beginOf
+  unfolding beginBy
   begin-held held h f p k = λ i. record {
     «step_bits» = sym p i;
     motor = (k .motor ∙ ap motor e) i;
@@ -32,7 +30,7 @@ module _ (a : Airframe) where
       e = ap (ofBits binary32) (sym p) ∙ ofBits-toBits binary32 h f
 
   pub begin-of-its-step : (h : Float) → T (fits binary32 h) → OfTheirStep a (beginOf a h)
-  unfolding beginOf
+  unfolding beginBy
   begin-of-its-step h f = record { motor = ap motor e; servo = ap servo e; lift = ap lift e }
     where
       e : h ≡ ofBits binary32 (toBits binary32 h)

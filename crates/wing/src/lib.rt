@@ -9,6 +9,7 @@ ghost use Rattle.wing.specs.Contracts as Contracts;
 ghost use Rattle.wing.specs.Loads as LoadsOf;
 ghost use Rattle.wing.specs.Tick as TickOf;
 use airframe::Airframe;
+use airframe::LagConstants;
 use answers::Answer;
 use body::Body;
 use body::Loads;
@@ -144,24 +145,28 @@ pub fn begin(a: Airframe, step_s: f32, powers: &[f32; POWER_COUNT]) -> LagFactor
     requires { ⌜ now powers ≡ powersOfTwo ⌝ }
     ensures { λ r. ⌜ r ≡ Contracts.beginOf a «step_s» ⌝ }
 {
-    let m = a.model;
-    let motors = a.motors;
+    begin_by(a.lag_constants(), step_s, powers)
+}
+
+// The same by the lags' constants: an airframe in an array need not be read for them.
+pub fn begin_by(constants: LagConstants, step_s: f32, powers: &[f32; POWER_COUNT]) -> LagFactors
+    requires { ⌜ now powers ≡ powersOfTwo ⌝ }
+    ensures { λ r. ⌜ r ≡ Contracts.beginBy constants «step_s» ⌝ }
+{
     LagFactors {
         step_bits: float::to_bits(step_s),
-        motor: motors.lag_factor(step_s, powers),
-        servo: lag::factor(step_s, m.servo_time_constant_s, powers),
-        lift: lift_factor(a, step_s, powers),
+        motor: lag::factor(step_s, constants.motor_s, powers),
+        servo: lag::factor(step_s, constants.servo_s, powers),
+        lift: lift_factor(constants, step_s, powers),
     }
 }
 
-fn lift_factor(a: Airframe, step_s: f32, powers: &[f32; POWER_COUNT]) -> f32
+fn lift_factor(constants: LagConstants, step_s: f32, powers: &[f32; POWER_COUNT]) -> f32
     requires { ⌜ now powers ≡ powersOfTwo ⌝ }
-    ensures { λ r. ⌜ r ≡ Contracts.liftFactor a «step_s» ⌝ }
+    ensures { λ r. ⌜ r ≡ Contracts.liftFactor constants «step_s» ⌝ }
 {
-    if a.lift_present {
-        let lift = a.lift;
-        let motors = lift.motors;
-        return motors.lag_factor(step_s, powers);
+    if constants.lift_present {
+        return lag::factor(step_s, constants.lift_s, powers);
     }
     0.0
 }

@@ -10,12 +10,12 @@ use Rattle.airframe.proofs.first_outside.Statement.{statement}
 use Rattle.airframe.proofs.first_outside.Tie as tie
 
 abbrev Inv-loop : tie.InvT-loop
-Inv-loop first count numbers limits i₀ i =
+Inv-loop numbers first count limits i₀ i =
     (i ≤ count) × (first + count ≤ numbersCount)
     × (firstFail (insideFrom limits numbers first) 0 count ≡ firstFail (insideFrom limits numbers first) i (count - i))
 
 abbrev μ-loop : tie.MeasureT-loop
-μ-loop first count numbers limits i₀ i = count - i
+μ-loop numbers first count limits i₀ i = count - i
 
 numbers-inside-requires : tie.Need-numbers-inside-requires Inv-loop μ-loop
 numbers-inside-requires c κs = search needs
@@ -41,8 +41,8 @@ add-inside c = search needs
 mul-inside : tie.Need-mul-inside Inv-loop μ-loop
 mul-inside c = search needs
 
-array-read-inside : tie.Need-array-read-inside Inv-loop μ-loop
-array-read-inside c = search needs
+element-copy-out-inside : tie.Need-element-copy-out-inside Inv-loop μ-loop
+element-copy-out-inside c = search needs
 
 inside-requires : tie.Need-inside-requires Inv-loop μ-loop
 inside-requires c κs = search needs
@@ -56,8 +56,8 @@ cast-result c = search needs
 returns-2 : tie.Need-returns-2 Inv-loop μ-loop
 unfolding insideFrom numberInside
 returns-2 c =
-    let s = c .before .before .before .before in
-    (sym (s .loop .inv .2 ∙ fail-here _ (s .loop .i) _ (c .before .before .before .loop-test .taken) (sym (c .before .inside .ensures) ∙ not-true (c .if2 .taken))), search needs)
+    let s = c .before .before .before .before .before in
+    (sym (s .loop .inv .2 ∙ fail-here _ (s .loop .i) _ (c .before .before .before .before .loop-test .taken) (sym (c .before .inside .ensures) ∙ not-true (c .if2 .taken))), search needs)
 
 add-i : tie.Need-add-i Inv-loop μ-loop
 add-i c = search needs
@@ -68,8 +68,8 @@ loop-less c = search needs
 loop-again : tie.Need-loop-again Inv-loop μ-loop
 unfolding insideFrom numberInside
 loop-again c =
-    let s = c .before .before .before .before in
-    (search needs, search needs, s .loop .inv .2 ∙ fail-next _ (s .loop .i) _ (c .before .before .before .loop-test .taken) (sym (c .before .inside .ensures) ∙ not-false (c .if2 .left)))
+    let s = c .before .before .before .before .before in
+    (search needs, search needs, s .loop .inv .2 ∙ fail-next _ (s .loop .i) _ (c .before .before .before .before .loop-test .taken) (sym (c .before .inside .ensures) ∙ not-false (c .if2 .left)))
 
 returns-3 : tie.Need-returns-3 Inv-loop μ-loop
 returns-3 c = (sym (c .before .loop .inv .2 ∙ fail-end _ (c .before .loop .i) _ (c .loop-test .left)), search needs)
@@ -88,7 +88,7 @@ first-outside-spec =
     array-copy-out-limit
     add-inside
     mul-inside
-    array-read-inside
+    element-copy-out-inside
     inside-requires
     add-result
     cast-result

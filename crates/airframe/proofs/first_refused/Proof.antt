@@ -44,9 +44,6 @@ lift-requires c κs = search needs
 segment-outside-requires-3 : tie.Need-segment-outside-requires-3
 segment-outside-requires-3 c κs = subst Asks (sym (c .lift .ensures)) (omega arith, (omega arith, omega arith))
 
-lift-torques-outside-requires : tie.Need-lift-torques-outside-requires
-lift-torques-outside-requires c κs = search needs
-
 or-else-requires : tie.Need-or-else-requires
 or-else-requires c κs = search needs
 
@@ -69,7 +66,7 @@ returns : tie.Need-returns
 unfolding firstRefused ofBits round
 returns c =
     let p = c .before .before .before .before .before .before in
-    let s = p .before .before .before .before .before .before in
+    let s = p .before .before .before .before .before in
     simp (
       c .or-else6 .ensures,
       c .before .or-else5 .ensures,
@@ -77,12 +74,11 @@ returns c =
       c .before .before .before .or-else3 .ensures,
       c .before .before .before .before .or-else2 .ensures,
       c .before .before .before .before .before .or-else .ensures,
-      p .lift-torques-outside .ensures,
-      p .before .segment-outside3 .ensures,
-      p .before .before .lift .ensures,
-      p .before .before .before .vectors-outside2 .ensures,
-      p .before .before .before .before .vectors-outside .ensures,
-      p .before .before .before .before .before .row-factors-outside .ensures,
+      p .segment-outside3 .ensures,
+      p .before .lift .ensures,
+      p .before .before .vectors-outside2 .ensures,
+      p .before .before .before .vectors-outside .ensures,
+      p .before .before .before .before .row-factors-outside .ensures,
       s .segment-outside2 .ensures,
       s .before .wash .ensures,
       s .before .before .segment-outside .ensures,
@@ -104,7 +100,6 @@ first-refused-spec =
     vectors-outside-requires-2
     lift-requires
     segment-outside-requires-3
-    lift-torques-outside-requires
     or-else-requires
     or-else-requires-2
     or-else-requires-3

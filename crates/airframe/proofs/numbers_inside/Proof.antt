@@ -12,10 +12,10 @@ use Rattle.airframe.proofs.numbers_inside.Statement.{statement}
 use Rattle.airframe.proofs.numbers_inside.Tie as tie
 
 abbrev Inv-loop : tie.InvT-loop
-Inv-loop first count numbers limits ok₀ i₀ ok i = (i ≤ count) × (first + count ≤ numbersCount) × (ok ≡ allPass (insideFrom limits numbers first) i)
+Inv-loop numbers first count limits ok₀ i₀ ok i = (i ≤ count) × (first + count ≤ numbersCount) × (ok ≡ allPass (insideFrom limits numbers first) i)
 
 abbrev μ-loop : tie.MeasureT-loop
-μ-loop first count numbers limits ok₀ i₀ ok i = count - i
+μ-loop numbers first count limits ok₀ i₀ ok i = count - i
 
 loop-holds : tie.Need-loop-holds Inv-loop μ-loop
 unfolding allPass
@@ -36,8 +36,8 @@ add-inside c = search needs
 mul-inside : tie.Need-mul-inside Inv-loop μ-loop
 mul-inside c = search needs
 
-array-read-inside : tie.Need-array-read-inside Inv-loop μ-loop
-array-read-inside c = search needs
+element-copy-out-inside : tie.Need-element-copy-out-inside Inv-loop μ-loop
+element-copy-out-inside c = search needs
 
 inside-requires : tie.Need-inside-requires Inv-loop μ-loop
 inside-requires c κs = search needs
@@ -54,7 +54,7 @@ loop-less c = search needs
 loop-again : tie.Need-loop-again Inv-loop μ-loop
 unfolding insideFrom numberInside
 loop-again c =
-    let s = c .before .before .before .before in
+    let s = c .before .before .before .before .before in
     (search needs, search needs, pass-more _ (s .loop .i) (s .loop .ok) _ (s .loop .inv .2) (c .both .ensures ∙ ap (λ (t : Bool). cond t (s .loop .ok) false) (c .before .inside .ensures)))
 
 returns : tie.Need-returns Inv-loop μ-loop
@@ -72,7 +72,7 @@ numbers-inside-spec =
     array-copy-out-limit
     add-inside
     mul-inside
-    array-read-inside
+    element-copy-out-inside
     inside-requires
     both-requires
     add-i

@@ -40,8 +40,8 @@ shared-slice-read-is-set-2 c = search needs
 is-set-requires-2 : tie.Need-is-set-requires-2
 is-set-requires-2 c κs = search needs
 
-vecs-in-requires-3 : tie.Need-vecs-in-requires-3
-vecs-in-requires-3 c κs = search needs
+lift-torques-outside-requires : tie.Need-lift-torques-outside-requires
+lift-torques-outside-requires c κs = search needs
 
 first-refused-requires : tie.Need-first-refused-requires
 first-refused-requires c κs = search needs
@@ -49,7 +49,7 @@ first-refused-requires c κs = search needs
 returns : tie.Need-returns
 unfolding placesIn placeAt listOf listFrom
 returns c =
-    let r = c .before in
+    let r = c .before .before in
     let p = r .before in
     let w = p .before .before in
     let t = w .before in
@@ -57,7 +57,7 @@ returns c =
     let f = s .before .before in
     let k = f .before .before in
     let xs = k .before .before .before .before .args .xs .now in
-    let e : c .first-refused .result ≡ tests xs (placesIn xs) = simp (c .first-refused .ensures, r .vecs-in3 .ensures, p .is-set2 .ensures, w .vecs-in2 .ensures, t .vecs-in .ensures, s .is-set .ensures, f .falloff-of .ensures, k .kind-of .ensures, k .before .before .places-in .ensures) in
+    let e : c .first-refused .result ≡ tests xs (placesIn xs) = simp (c .first-refused .ensures, r .lift-torques-outside .ensures, p .is-set2 .ensures, w .vecs-in2 .ensures, t .vecs-in .ensures, s .is-set .ensures, f .falloff-of .ensures, k .kind-of .ensures, k .before .before .places-in .ensures) in
     e ∙ sym (array-refused xs)
 
 pub refused-place-spec : {M : Type 1} → statement M
@@ -75,6 +75,6 @@ refused-place-spec =
     vecs-in-requires-2
     shared-slice-read-is-set-2
     is-set-requires-2
-    vecs-in-requires-3
+    lift-torques-outside-requires
     first-refused-requires
     returns)

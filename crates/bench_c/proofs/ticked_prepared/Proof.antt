@@ -1,4 +1,5 @@
--- `bench_c::ticked_prepared` meets its contract: the refused place of the numbers is the airframe's own. Assumes nothing.
+-- `bench_c::ticked_prepared` meets its contract: the refused place and the lags' constants that are read off the numbers are the
+-- airframe's own. Assumes nothing.
 use Rattle.airframe.specs.Acceptance.{refusedPlace}
 use Rattle.wing.specs.Tick.{tickOf}
 use Rattle.ordered.proofs.Ordered.{some-eqb}
@@ -10,22 +11,28 @@ use Rattle.bench_c.proofs.ticked_prepared.Tie as tie
 refused-place-requires : tie.Need-refused-place-requires
 refused-place-requires c κs = search needs
 
-airframe-in-requires : tie.Need-airframe-in-requires
-airframe-in-requires c κs = search needs
-
 powers-of-two-requires : tie.Need-powers-of-two-requires
 powers-of-two-requires c κs = search needs
 
-begin-requires : tie.Need-begin-requires
-begin-requires c κs = search needs
+lag-constants-in-requires : tie.Need-lag-constants-in-requires
+lag-constants-in-requires c κs = search needs
+
+begin-by-requires : tie.Need-begin-by-requires
+begin-by-requires c κs = search needs
+
+airframe-in-requires : tie.Need-airframe-in-requires
+airframe-in-requires c κs = search needs
 
 tick-accepted-requires : tie.Need-tick-accepted-requires
 tick-accepted-requires c κs =
     let t = c .before .before .before .before in
-    (ap refusedPlace (t .airframe-in .ensures) ∙ sym (t .before .before .refused-place .ensures) ∙ t .before .if1 .taken, (c .before .begin .ensures, c .before .before .before .powers-of-two .ensures))
+    let a = c .before .airframe-in .ensures in (
+      ap refusedPlace a ∙ sym (t .before .before .before .refused-place .ensures) ∙ t .before .before .if1 .taken,
+      (simp (c .before .before .begin-by .ensures, t .lag-constants-in .ensures, a), t .before .powers-of-two .ensures),
+    )
 
 returns : tie.Need-returns
-returns c = simp (c .tick-accepted .ensures, c .before .before .before .before .before .airframe-in .ensures)
+returns c = simp (c .tick-accepted .ensures, c .before .before .airframe-in .ensures)
 
 refused-requires : tie.Need-refused-requires
 refused-requires c κs = search needs
@@ -39,9 +46,10 @@ ticked-prepared-spec =
     tie.close
     (tie.spec
     refused-place-requires
-    airframe-in-requires
     powers-of-two-requires
-    begin-requires
+    lag-constants-in-requires
+    begin-by-requires
+    airframe-in-requires
     tick-accepted-requires
     returns
     refused-requires

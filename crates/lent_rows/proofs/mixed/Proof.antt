@@ -27,10 +27,16 @@ returns c =
     let tau = s .args .time-constant-s in
     let l' = s .args .lift-layout in
     let tau' = s .args .lift-time-constant-s in
-    let e : c .mixed-lent .result ≡ mixOf rows l tau l' tau' = simp (c .mixed-lent .ensures, c .before .start .ensures, c .before .before .live .ensures .0) in
-    let motors = ap (λ (m : Mix). m .motors) e ∙ lent-motors rows l tau l' tau' long in
-    let lift = ap (λ (m : Mix). m .lift) e ∙ lent-lift rows l tau l' tau' long in
-    (e, (motors, (lift, ap surfacesIn e ∙ lent-surfaces rows l tau l' tau' long)))
+    let e : c .mixed-lent .result ≡ mixOf rows l tau l' tau' = simp (c .mixed-lent .ensures, c .before .start .ensures, c .before .before .live .ensures .0) in (
+      e,
+      (
+        ap (λ (m : Mix). m .motors) e ∙ lent-motors rows l tau l' tau' long,
+        (
+          ap (λ (m : Mix). m .lift) e ∙ lent-lift rows l tau l' tau' long,
+          ap surfacesIn e ∙ lent-surfaces rows l tau l' tau' long,
+        ),
+      ),
+    )
 
 pub mixed-spec : {M : Type 1} → statement M
 mixed-spec = tie.close (tie.spec live-requires start-requires mixed-lent-requires returns)

@@ -5,16 +5,16 @@ use borrow.Author.Needs.{needs}
 use Rattle.wing.proofs.lift_factor.Statement.{statement}
 use Rattle.wing.proofs.lift_factor.Tie as tie
 
-lag-factor-requires : tie.Need-lag-factor-requires
-lag-factor-requires c κs = search needs
+factor-requires : tie.Need-factor-requires
+factor-requires c κs = search needs
 
 returns : tie.Need-returns
 unfolding liftFactor
-returns c = simp (c .lag-factor .ensures, c .before .before .before .if1 .taken)
+returns c = simp (c .factor .ensures, c .before .if1 .taken)
 
 returns-2 : tie.Need-returns-2
 unfolding liftFactor ofBits
 returns-2 c = simp (c .if1 .left)
 
 pub lift-factor-spec : {M : Type 1} → statement M
-lift-factor-spec = tie.close (tie.spec lag-factor-requires returns returns-2)
+lift-factor-spec = tie.close (tie.spec factor-requires returns returns-2)

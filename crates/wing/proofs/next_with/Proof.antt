@@ -1,7 +1,9 @@
 -- `wing::next_with` meets its contract. Assumes nothing.
 use lib.Ieee.{ofBits, round}
 use Rattle.wing.proofs.Lift.{held-factor}
-use Rattle.wing.specs.Contracts.{beginOf}
+use Rattle.airframe.specs.Contracts.{lagConstantsOf}
+use Rattle.motors.specs.Motor.{lagFactor}
+use Rattle.wing.specs.Contracts.{beginBy}
 use Rattle.wing.specs.Tick.{movedOf, nextFrom, nextOf, spunOf}
 use borrow.Author.Needs.{needs}
 use Rattle.wing.proofs.next_with.Statement.{statement}
@@ -29,7 +31,7 @@ stepped-requires : tie.Need-stepped-requires
 stepped-requires c κs = search needs
 
 returns : tie.Need-returns
-unfolding nextOf nextFrom spunOf movedOf beginOf ofBits round
+unfolding nextOf nextFrom spunOf movedOf lagFactor beginBy lagConstantsOf ofBits round
 returns c =
     let l = c .before .before .before in
     let s = l .before .before .before .before in
