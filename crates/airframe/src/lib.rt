@@ -264,6 +264,7 @@ impl Airframe {
         self.lowest_place(true)
     }
 
+    // The constants of its lags.
     pub fn lag_constants(self) -> LagConstants
         ensures { λ r. ⌜ r ≡ Contracts.lagConstantsOf self ⌝ }
     {
