@@ -117,7 +117,8 @@ vectorsOutside limit place vs = cond (eqb (firstFail (slotVecInside limit vs) 0 
 unfoldable pub liftTorquesOutside : Bool → List Vec3 → ℕ
 liftTorquesOutside present torques = cond present (vectorsOutside (rounded 100 1) 58 torques) 0
 
--- ---- the parts in the order of their places: the first that is out of range tells its place; what is said of the lift torques, last
+-- ---- the parts in the order of their places: the first that is out of range tells its place. `liftTorque` is what
+-- `liftTorquesOutside` says of the lift torques: 58, or 0
 unfoldable pub firstRefused : List Float → ThrustFalloff → Bool → Bool → List Vec3 → List Vec3 → Bool → ℕ → ℕ
 firstRefused numbers falloff wash rows torques weights lift liftTorque =
     firstOf
