@@ -252,10 +252,13 @@ same-number nan p = p
 same-number (inf s) p = tt
 same-number (fin s m e) p = tt
 
--- ---- `le` and `lt` in a row, on finite values
+-- ---- `le` and `lt` by each other; and in a row, on finite values
 by-contra : (b : Bool) → (T (not b) → ⊥) → T b
 by-contra true h = tt
 by-contra false h = h tt
+
+pub not-le→lt : (x y : Float) → T (not (isNan x)) → T (not (isNan y)) → T (not (le x y)) → T (lt y x)
+not-le→lt x y p q n = by-contra (lt y x) (λ k. T-not (le x y) n (not-lt→le y x q p k))
 
 pub le-lt : (x y z : Float) → T (finite x) → T (finite y) → T (finite z) → T (le x y) → T (lt y z) → T (lt x z)
 le-lt x y z p q r h k = by-contra (lt x z) (λ n. T-not (lt y z) (le→not-lt y z q r (le-trans-float z x y (not-lt→le x z (finite-number x p) (finite-number z r) n) h)) k)

@@ -1,0 +1,64 @@
+-- `air::density_with` meets its contract: past the three tests the height is a number between the table's ends. Assumes nothing.
+use lib.Dec.{T}
+use lib.Ieee.{neg, ofBits, ofInt, round}
+use lib.Ieee.Compare.{differs-from-itself}
+use mathlib.Core.Bool.{Bool, not}
+use mathlib.Core.Path.{_∙_, ap, subst, sym}
+use borrow.Author.Needs.{needs}
+use Rattle.float.proofs.Order.{same-number}
+use Rattle.air.proofs.Range.{density-nan}
+use Rattle.air.proofs.Rows.{between-ends, row-inside}
+use Rattle.air.specs.Contracts.{Inside}
+use Rattle.air.specs.Density.{densityAt, densityOf, heightOf}
+use Rattle.air.proofs.density_with.Statement.{statement}
+use Rattle.air.proofs.density_with.Tie as tie
+
+element-copy-out-result : tie.Need-element-copy-out-result
+element-copy-out-result c = search needs
+
+returns : tie.Need-returns
+unfolding densityAt densityOf heightOf ofInt ofBits neg round
+returns c = rw (c .before .before .pre, c .before .if1 .taken)
+
+element-copy-out-result-2 : tie.Need-element-copy-out-result-2
+element-copy-out-result-2 c = search needs
+
+returns-2 : tie.Need-returns-2
+unfolding densityAt densityOf heightOf ofInt ofBits neg round
+returns-2 c = rw (c .before .before .before .pre, c .before .before .if1 .left, c .before .if2 .taken)
+
+returns-3 : tie.Need-returns-3
+returns-3 c =
+    let nan-is = differs-from-itself (c .before .before .before .args .height-m) (subst T (sym (c .if3 .taken)) tt) in
+    nan-is ∙ sym density-nan ∙ ap densityAt (sym nan-is)
+
+past-tests : (c : tie.Else3) → Inside (c .before .before .before .args .height-m)
+unfolding heightOf ofInt ofBits neg round
+past-tests c = between-ends (c .before .before .before .args .height-m) (same-number (c .before .before .before .args .height-m) (subst (λ (t : Bool). T (not t)) (sym (c .if3 .left)) tt)) (c .before .before .if1 .left) (c .before .if2 .left)
+
+row-below-requires : tie.Need-row-below-requires
+row-below-requires c κs = past-tests c
+
+between-requires : tie.Need-between-requires
+between-requires c κs =
+    let s = c .before .before .before .before in
+    (rw (c .row-below .ensures) (row-inside (s .args .height-m) (past-tests (c .before))), s .pre)
+
+returns-4 : tie.Need-returns-4
+unfolding densityAt heightOf ofInt ofBits neg round
+returns-4 c =
+    let e = c .before .before in
+    rw (e .before .before .if1 .left, e .before .if2 .left, c .between .ensures, c .before .row-below .ensures)
+
+pub density-with-spec : {M : Type 1} → statement M
+density-with-spec =
+    tie.close
+    (tie.spec
+    element-copy-out-result
+    returns
+    element-copy-out-result-2
+    returns-2
+    returns-3
+    row-below-requires
+    between-requires
+    returns-4)
