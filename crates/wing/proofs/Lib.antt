@@ -9,3 +9,4 @@ pub mod Pulls
 pub mod Scales
 pub mod Shares
 pub mod Lift
+pub mod Height

@@ -29,7 +29,7 @@ use Rattle.wing.proofs.Passed.{of-tick}
 use Rattle.wing.proofs.Range.{lift-unmoved, next-lift}
 use Rattle.wing.specs.Contracts.{beginBy, beginOf, liftFactor}
 use Rattle.wing.specs.Loads.{aeroOf, airOf, loadedBy, loadsOf, loadsUnder, motorsFor, pullOf, surfacesFor, withLift, withThrust}
-use Rattle.wing.specs.Tick.{acceptedTick, airDensity, liftSpun, liftedOf, movedOf, nextFrom, nextOf, refusedOf, spunOf, steppedOf, tickOf, unlessDeparted, windUsable}
+use Rattle.wing.specs.Tick.{acceptedTick, densityFor, liftSpun, liftedOf, movedOf, nextFrom, nextOf, refusedOf, spunOf, steppedOf, tickOf, unlessDeparted, windUsable}
 use Rattle.wing.specs.declared.Loaded.{Loaded}
 use Rattle.wing.specs.declared.Ticked.{Ticked}
 
@@ -74,7 +74,7 @@ module _ (a : Airframe) (p : a .«lift_present» ≡ false) where
       let surfaces = movedOf a f (t .servos) h in
       let motors = spunOf a f (t .motors) h in
       let air = airOf (f .body) (t .«wind_ned_mps») in
-      steppedOf (a .model) f (motors .running) (surfaces .running) (f .«lift_motors») (unliftedUnder a (pullOf (a .model) motors air) surfaces (f .body) air airDensity) h
+      steppedOf (a .model) f (motors .running) (surfaces .running) (f .«lift_motors») (unliftedUnder a (pullOf (a .model) motors air) surfaces (f .body) air (densityFor f)) h
 
   next-unlifted : (f : Flight) (t : Tick) → nextOf a f t ≡ nextUnlifted f t
   unfolding nextOf nextFrom liftedOf liftSpun loadsOf loadsUnder loadedBy withLift withThrust
@@ -100,7 +100,7 @@ module _ (a : Airframe) (p : a .«lift_present» ≡ false) (xs : List Float) (e
   inside-too f o = rw (e, o) refl
 
   next-too : (f : Flight) (t : Tick) → nextUnlifted a p (lifting f xs) t ≡ handing xs (nextUnlifted a p f t)
-  unfolding steppedOf movedOf surfacesFor spunOf motorsFor
+  unfolding steppedOf movedOf surfacesFor spunOf motorsFor densityFor
   next-too f t = refl
 
   refused-too : (x : Answer) (f : Flight) → Hands (refusedOf x f) (refusedOf x (lifting f xs))

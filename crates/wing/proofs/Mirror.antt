@@ -10,6 +10,7 @@ use mathlib.Core.Path.{_∙_, _≡_, ap, ap₂, refl, subst, sym}
 use Rattle.aero.proofs.Mirror.{wrench-mirror}
 use Rattle.aero.specs.Reflection.{AeroRel}
 use Rattle.aero.specs.declared.Aero.{Aero}
+use Rattle.air.proofs.Mirror.{density-is}
 use Rattle.airframe.proofs.Mirror.{refused-place-is}
 use Rattle.airframe.specs.Acceptance.{refusedPlace}
 use Rattle.airframe.specs.Reflection.{AirframeRel}
@@ -26,7 +27,7 @@ use Rattle.flight.specs.Envelope.{isInside}
 use Rattle.flight.specs.Reflection.{FlightRel, TickRel}
 use Rattle.flight.specs.declared.Flight.{Flight}
 use Rattle.flight.specs.declared.Tick.{Tick}
-use Rattle.float.proofs.Mirror.{by-test, r-is, r-same, r-zero}
+use Rattle.float.proofs.Mirror.{by-test, r-is, r-neg, r-same, r-zero}
 use Rattle.float.specs.Interval.{inside}
 use Rattle.float.specs.Notation.{_⊗_, nought}
 use Rattle.float.specs.Same.{Rel}
@@ -47,7 +48,7 @@ use Rattle.vector.specs.declared.Quaternion.{Quaternion}
 use Rattle.vector.specs.declared.Vec3.{Vec3}
 use Rattle.wing.specs.Loads.{aeroOf, airOf, loadedBy, loadsOf, loadsUnder, motorsFor, pullOf, surfacesFor, washFor, withLift, withThrust}
 use Rattle.wing.specs.Reflection.{LoadedRel, TickedRel}
-use Rattle.wing.specs.Tick.{airDensity, acceptedTick, liftSpun, liftedOf, unlessDeparted, massOf, movedOf, nextFrom, nextOf, refusedOf, spunOf, steppedOf, tickOf, windMost, windUsable}
+use Rattle.wing.specs.Tick.{acceptedTick, densityFor, liftSpun, liftedOf, unlessDeparted, massOf, movedOf, nextFrom, nextOf, refusedOf, spunOf, steppedOf, tickOf, windMost, windUsable}
 use Rattle.wing.specs.declared.Loaded.{Loaded}
 use Rattle.wing.specs.declared.Ticked.{Ticked}
 
@@ -107,6 +108,11 @@ loads-mirror density h k l e g w =
     let aero = aero-mirror _ _ density (pull .thrust) h l g air in
     loaded-mirror (g .attitude) (with-lift-mirror h e air (with-thrust-mirror (h .model) pull aero)) aero (pull .thrust)
 
+-- a mirrored pair shares its height, and so its density
+density-for-is : {f f' : Flight} → FlightRel f f' → densityFor f' ≡ densityFor f
+unfolding densityFor
+density-for-is k = density-is (r-neg (k .body .position .z))
+
 -- ---- the step
 stepped-mirror : {f f' : Flight} {l l' : Loaded} (m : FixedWingModel) (motors servos lifting : List Float) (h : Float) → FlightRel f f' → LoadedRel l l' → TickedRel (steppedOf m f motors servos lifting l h) (steppedOf m f' motors servos lifting l' h)
 unfolding steppedOf
@@ -123,7 +129,8 @@ next-from-mirror : {a a' : Airframe} {f f' : Flight} {m m' : Motors} {s s' : Sur
     → TickedRel (nextFrom a f m s xs wind h) (nextFrom a' f' m' s' xs' wind' h)
 unfolding nextFrom
 next-from-mirror {a} {a'} {f} {f'} {m} {m'} {s} {s'} {xs} {xs'} step h k g l e w =
-    stepped-same (a .model) (a' .model) (m .running) (m' .running) (s .running) (s' .running) xs xs' step (h .model) (g .running) (l .running) e k (loads-mirror airDensity h g l e (k .body) w)
+    stepped-same (a .model) (a' .model) (m .running) (m' .running) (s .running) (s' .running) xs xs' step (h .model) (g .running) (l .running) e k
+    (rw (density-for-is k) (loads-mirror (densityFor f) h g l e (k .body) w))
 
 spun-mirror : {a a' : Airframe} {f f' : Flight} (commands : List Float) (step : Float) → AirframeRel a a' → FlightRel f f' → MotorsRel (spunOf a f commands step) (spunOf a' f' commands step)
 unfolding spunOf

@@ -10,7 +10,7 @@ use Rattle.flight.specs.declared.Tick.{Tick}
 use Rattle.motors.specs.Motor.{wrenchWith}
 use Rattle.motors.specs.declared.MotorWrench.{MotorWrench}
 use Rattle.wing.specs.Loads.{airOf, loadsOf, loadsUnder, pullOf}
-use Rattle.wing.specs.Tick.{acceptedTick, airDensity, liftedOf, movedOf, nextFrom, nextOf, refusedOf, spunOf, steppedOf, tickOf}
+use Rattle.wing.specs.Tick.{acceptedTick, densityFor, liftedOf, movedOf, nextFrom, nextOf, refusedOf, spunOf, steppedOf, tickOf}
 use Rattle.wing.specs.declared.Ticked.{Ticked}
 
 module _ (a : Airframe) (f : Flight) (t : Tick) where
@@ -21,7 +21,7 @@ module _ (a : Airframe) (f : Flight) (t : Tick) where
       let surfaces = movedOf a f (t .servos) h in
       let lifting = liftedOf a f (t .motors) h in
       steppedOf (a .model) f (spunOf a f (t .motors) h .running) (surfaces .running) lifting
-      (loadsUnder a pull surfaces lifting (f .body) (airOf (f .body) (t .«wind_ned_mps»)) airDensity) h
+      (loadsUnder a pull surfaces lifting (f .body) (airOf (f .body) (t .«wind_ned_mps»)) (densityFor f)) h
 
   -- and the tick, with its tests
   abbrev pub tickUnder : MotorWrench → Ticked

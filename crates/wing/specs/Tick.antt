@@ -1,8 +1,9 @@
--- The tick (01, module 8 and "What the bench replies"; 02, 1 and 5): tests 6, 7, 8, 10, the step, test 9. Definitions only.
+-- The tick (01, module 8 and "What the bench replies"; 02, 1, 5 and 6): tests 6, 7, 8, 10, the step, test 9. Definitions only.
 use lib.Dec.{eqb}
-use lib.Ieee.{Float}
+use lib.Ieee.{Float, neg}
 use mathlib.Core.Bool.{Bool, cond}
 use mathlib.Core.List.{List}
+use Rattle.air.specs.Density.{densityAt}
 use Rattle.airframe.specs.Acceptance.{refusedPlace}
 use Rattle.airframe.specs.declared.Airframe.{Airframe}
 use Rattle.answers.specs.declared.Answer.{Answer}
@@ -42,9 +43,9 @@ liftSpun a f commands factor =
 unfoldable pub liftedOf : Airframe → Flight → List Float → Float → List Float
 liftedOf a f commands h = liftSpun a f commands (lagFactor (a .lift .motors) h)
 
--- density 1.225
-abbrev pub airDensity : Float
-airDensity = rounded 1225 1000
+-- the density at the tick's starting height, which is position down negated (02, 6)
+unfoldable pub densityFor : Flight → Float
+densityFor f = densityAt (neg (f .body .«position_ned_m» .z))
 
 -- Body::step under the loads; the lagged values are the state's running values, and its thrust scales stay (02, 2)
 unfoldable pub massOf : FixedWingModel → MassProperties
@@ -64,7 +65,7 @@ steppedOf m f motors servos lifting l h = record {
 
 unfoldable pub nextFrom : Airframe → Flight → Motors → Surfaces → List Float → Vec3 → Float → Ticked
 nextFrom a f motors surfaces lifting wind h =
-    steppedOf (a .model) f (motors .running) (surfaces .running) lifting (loadsOf a motors surfaces lifting (f .body) wind airDensity) h
+    steppedOf (a .model) f (motors .running) (surfaces .running) lifting (loadsOf a motors surfaces lifting (f .body) wind (densityFor f)) h
 
 unfoldable pub nextOf : Airframe → Flight → Tick → Ticked
 nextOf a f t =

@@ -1,13 +1,15 @@
 // 01, module 8: the tick. Lags, thrust, wash, aerodynamics, lift rotors and the body's step, with the tests 6 to 10 around them.
-// `powers` is libm's table of powers of two, made once a tick or once a run.
+// `powers` is libm's table of powers of two and `densities` the air's table of densities, each made once a tick or once a run.
 ghost use mathlib.Core.Bool.{true};
 ghost use mathlib.Core.Path.{_≡_};
+ghost use Rattle.air.specs.Density as Density;
 ghost use Rattle.airframe.specs.Acceptance.{refusedPlace};
 ghost use Rattle.flight.specs.Envelope.{isInside};
 ghost use Rattle.libm.specs.Powers.{powersOfTwo};
 ghost use Rattle.wing.specs.Contracts as Contracts;
 ghost use Rattle.wing.specs.Loads as LoadsOf;
 ghost use Rattle.wing.specs.Tick as TickOf;
+use air::ROW_COUNT;
 use airframe::Airframe;
 use airframe::LagConstants;
 use answers::Answer;
@@ -23,9 +25,6 @@ use motors::Motors;
 use surfaces::Surfaces;
 use tailsitter_model::Wash;
 use vector::Vec3;
-
-// ρ, the same everywhere.
-pub const AIR_DENSITY_KGPM3: f32 = 1.225;
 
 // Loads, and what a tick reports besides its answer.
 pub struct Loaded {
@@ -65,8 +64,9 @@ pub fn tick(a: Airframe, f: Flight, t: Tick) -> Ticked
     let place = a.refused_place();
     if place == 0 {
         let powers = libm::powers_of_two();
+        let densities = air::densities();
         let lags = begin(a, t.step_s, &powers);
-        return tick_accepted(a, f, t, lags, &powers);
+        return tick_accepted(a, f, t, lags, &powers, &densities);
     }
     refused(Answer::NumberOutOfRange(place), f)
 }
@@ -78,12 +78,14 @@ pub fn tick_accepted(
     t: Tick,
     lags: LagFactors,
     powers: &[f32; POWER_COUNT],
+    densities: &[f32; ROW_COUNT],
 ) -> Ticked
-    requires { ⌜ refusedPlace a ≡ 0 ⌝ ∗ ⌜ lags ≡ Contracts.beginOf a (t .«step_s») ⌝ ∗ ⌜ now powers ≡ powersOfTwo ⌝ }
+    requires { ⌜ refusedPlace a ≡ 0 ⌝ ∗ ⌜ lags ≡ Contracts.beginOf a (t .«step_s») ⌝ ∗ ⌜ now powers ≡ powersOfTwo ⌝
+        ∗ ⌜ now densities ≡ Density.densities ⌝ }
     ensures { λ r. ⌜ r ≡ TickOf.tickOf a f t ⌝ }
 {
     if f.is_inside() {
-        return tick_inside(a, f, t, lags, powers);
+        return tick_inside(a, f, t, lags, powers, densities);
     }
     refused(Answer::StateOutside, f)
 }
@@ -95,14 +97,16 @@ pub fn tick_inside(
     t: Tick,
     lags: LagFactors,
     powers: &[f32; POWER_COUNT],
+    densities: &[f32; ROW_COUNT],
 ) -> Ticked
     requires { ⌜ refusedPlace a ≡ 0 ⌝ ∗ ⌜ isInside f ≡ true ⌝ ∗ ⌜ lags ≡ Contracts.beginOf a (t .«step_s») ⌝
-        ∗ ⌜ now powers ≡ powersOfTwo ⌝ }
+        ∗ ⌜ now powers ≡ powersOfTwo ⌝
+        ∗ ⌜ now densities ≡ Density.densities ⌝ }
     ensures { λ r. ⌜ r ≡ TickOf.tickOf a f t ⌝ }
 {
     if float::inside(t.step_s, 0.0009765625, 0.02) {
         if wind_usable(t.wind_ned_mps) {
-            return unless_departed(f, next_with(a, f, t, lags, powers));
+            return unless_departed(f, next_with(a, f, t, lags, powers, densities));
         }
         return refused(Answer::WindUnusable, f);
     }
@@ -194,8 +198,10 @@ fn next_with(
     t: Tick,
     lags: LagFactors,
     powers: &[f32; POWER_COUNT],
+    densities: &[f32; ROW_COUNT],
 ) -> Ticked
-    requires { ⌜ lags ≡ Contracts.beginOf a (t .«step_s») ⌝ ∗ ⌜ now powers ≡ powersOfTwo ⌝ }
+    requires { ⌜ lags ≡ Contracts.beginOf a (t .«step_s») ⌝ ∗ ⌜ now powers ≡ powersOfTwo ⌝
+        ∗ ⌜ now densities ≡ Density.densities ⌝ }
     ensures { λ r. ⌜ r ≡ TickOf.nextOf a f t ⌝ }
 {
     let commands = t.motors;
@@ -210,12 +216,22 @@ fn next_with(
         lifting,
         f.body,
         t.wind_ned_mps,
-        AIR_DENSITY_KGPM3,
+        density_for(f, densities),
         powers,
     );
     let running = motors.running;
     let positions = surfaces.running;
     stepped(a.model, f, running, positions, lifting, loaded, t.step_s)
+}
+
+// The air's density at a state's height, which is its position down negated (02, 6).
+fn density_for(f: Flight, densities: &[f32; ROW_COUNT]) -> f32
+    requires { ⌜ now densities ≡ Density.densities ⌝ }
+    ensures { λ r. ⌜ r ≡ TickOf.densityFor f ⌝ }
+{
+    let body = f.body;
+    let position = body.position_ned_m;
+    air::density_with(-position.z, densities)
 }
 
 // The lift rotors' running values after a step of their lag: each follows the motor command of its slot. Without lift numbers they

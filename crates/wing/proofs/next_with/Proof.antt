@@ -24,6 +24,9 @@ move-to-requires c κs = search needs
 lift-spun-requires : tie.Need-lift-spun-requires
 lift-spun-requires c κs = search needs
 
+density-for-requires : tie.Need-density-for-requires
+density-for-requires c κs = search needs
+
 loads-requires : tie.Need-loads-requires
 loads-requires c κs = search needs
 
@@ -34,14 +37,15 @@ returns : tie.Need-returns
 unfolding nextOf nextFrom spunOf movedOf lagFactor beginBy lagConstantsOf ofBits round
 returns c =
     let l = c .before .before .before in
-    let s = l .before .before .before .before in
+    let s = l .before .before .before .before .before in
     let x = s .before .before .before .before in
     simp (
       c .stepped .ensures,
       l .loads .ensures,
-      l .before .lift-spun .ensures,
-      l .before .before .move-to .ensures,
-      l .before .before .before .surfaces-of .ensures,
+      l .before .density-for .ensures,
+      l .before .before .lift-spun .ensures,
+      l .before .before .before .move-to .ensures,
+      l .before .before .before .before .surfaces-of .ensures,
       s .spin .ensures,
       s .before .motors-of .ensures,
       x .pre .0,
@@ -57,6 +61,7 @@ next-with-spec =
     surfaces-of-requires
     move-to-requires
     lift-spun-requires
+    density-for-requires
     loads-requires
     stepped-requires
     returns)

@@ -18,13 +18,18 @@ refused-place-requires c κs = search needs
 powers-of-two-requires : tie.Need-powers-of-two-requires
 powers-of-two-requires c κs = search needs
 
+densities-requires : tie.Need-densities-requires
+densities-requires c κs = search needs
+
 begin-requires : tie.Need-begin-requires
 begin-requires c κs = search needs
 
 tick-accepted-requires : tie.Need-tick-accepted-requires
 tick-accepted-requires c κs =
-    let t = c .before .before .before .before in
-    (sym (t .before .refused-place .ensures) ∙ t .if1 .taken, (c .before .begin .ensures, c .before .before .before .powers-of-two .ensures))
+    let b = c .before .before in
+    let d = b .before .before in
+    let t = d .before .before in
+    (sym (t .before .refused-place .ensures) ∙ t .if1 .taken, (b .begin .ensures, (d .before .powers-of-two .ensures, d .densities .ensures)))
 
 returns : tie.Need-returns
 returns c = search needs
@@ -41,4 +46,4 @@ returns-2 c =
 
 pub tick-spec : {M : Type 1} → statement M
 tick-spec =
-    tie.close (tie.spec refused-place-requires powers-of-two-requires begin-requires tick-accepted-requires returns refused-requires returns-2)
+    tie.close (tie.spec refused-place-requires powers-of-two-requires densities-requires begin-requires tick-accepted-requires returns refused-requires returns-2)

@@ -1,0 +1,44 @@
+-- A tick by the density of its air. One that starts at 0 m, of either sign, is the tick there was when the density was 1.225 everywhere (02, 6); the next one starts where the first has
+-- left the state. Assumes nothing.
+use lib.Dec.{eqb}
+use lib.Ieee.{Float, neg}
+use mathlib.Core.Bool.{Bool, cond, false, not, true}
+use mathlib.Core.Path.{_∙_, _≡_, ap, refl}
+use Rattle.air.proofs.Range.{density-at-0}
+use Rattle.air.specs.Density.{densityAt}
+use Rattle.airframe.specs.Acceptance.{refusedPlace}
+use Rattle.airframe.specs.declared.Airframe.{Airframe}
+use Rattle.answers.specs.declared.Answer.the-variants.{NumberOutOfRange}
+use Rattle.flight.specs.declared.Flight.{Flight}
+use Rattle.flight.specs.declared.Tick.{Tick}
+use Rattle.float.specs.Notation.{nought, rounded}
+use Rattle.float.specs.Same.{flip}
+use Rattle.wing.specs.Loads.{loadsOf}
+use Rattle.wing.specs.Tick.{acceptedTick, densityFor, liftedOf, movedOf, nextFrom, nextOf, refusedOf, spunOf, steppedOf, tickOf}
+use Rattle.wing.specs.declared.Ticked.{Ticked}
+
+module _ (a : Airframe) (f : Flight) (t : Tick) where
+  -- the next state in air of a density
+  abbrev nextIn : Float → Ticked
+  nextIn density =
+      let h = t .«step_s» in
+      let motors = spunOf a f (t .motors) h in
+      let surfaces = movedOf a f (t .servos) h in
+      let lifting = liftedOf a f (t .motors) h in
+      steppedOf (a .model) f (motors .running) (surfaces .running) lifting (loadsOf a motors surfaces lifting (f .body) (t .«wind_ned_mps») density) h
+
+  -- and the tick, with its tests
+  abbrev pub tickIn : Float → Ticked
+  tickIn density = cond (eqb (refusedPlace a) 0) (acceptedTick f t (nextIn density)) (refusedOf (NumberOutOfRange (refusedPlace a)) f)
+
+  tick-in : {density : Float} → densityFor f ≡ density → tickOf a f t ≡ tickIn density
+  unfolding tickOf nextOf nextFrom
+  tick-in e = ap tickIn e
+
+  pub tick-at-0 : (s : Bool) → f .body .«position_ned_m» .z ≡ flip s nought → tickOf a f t ≡ tickIn (rounded 1225 1000)
+  unfolding densityFor neg
+  tick-at-0 s e = tick-in (ap (λ (z : Float). densityAt (neg z)) e ∙ height-0 s)
+    where
+      height-0 : (s : Bool) → densityAt (neg (flip s nought)) ≡ rounded 1225 1000
+      height-0 false = density-at-0 true
+      height-0 true = density-at-0 false
