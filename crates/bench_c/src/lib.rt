@@ -208,7 +208,8 @@ fn ticked_prepared(airframe: &[f32], f: Flight, t: Tick) -> Ticked
         let powers = libm::powers_of_two();
         let lags = wing::begin_by(arrays::lag_constants_in(airframe), t.step_s, &powers);
         let a = arrays::airframe_in(airframe);
-        return wing::tick_accepted(a, f, t, lags, &powers);
+        let densities = air::densities();
+        return wing::tick_accepted(a, f, t, lags, &powers, &densities);
     }
     wing::refused(Answer::NumberOutOfRange(place), f)
 }

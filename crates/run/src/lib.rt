@@ -85,13 +85,14 @@ fn fly_all(a: Airframe, f: Flight, trace: &[u8], reflect: bool) -> Ran
     let count = trace.len() / state_block::TICK_BYTES;
     let mut flight = f;
     let powers = libm::powers_of_two();
+    let densities = air::densities();
     let mut lags = wing::begin(a, 0.01, &powers);
     let mut accepted = 0u64;
     let mut i = 0usize;
     while i < count {
         let t = tick_at(trace, i, reflect);
         lags = wing::begin_after(a, lags, t.step_s, &powers);
-        let done = wing::tick_inside(a, flight, t, lags, &powers);
+        let done = wing::tick_inside(a, flight, t, lags, &powers, &densities);
         let report = done.report;
         let answer = report.answer;
         accepted += one_if_done(answer);
