@@ -1,8 +1,9 @@
 // The bench for C and Rust to link: reading and writing blocks, a tick, a run over a trace and the mirrored pair, on bytes and
-// arrays of numbers; and the elementary functions. include/bench.h says it for callers.
+// arrays of numbers; the elementary functions, and the air's density. include/bench.h says it for callers.
 ghost use mathlib.Core.Path.{_≡_};
 ghost use lib.Ieee.{binary32};
 ghost use Prim.Native.Nat.{_≤_};
+ghost use Rattle.air.specs.Density.{densityAt};
 ghost use Rattle.airframe_block.specs.Block.{readAirframeOf};
 ghost use Rattle.libm.specs.Atan.{atan2Of, asinOf};
 ghost use Rattle.libm.specs.Exp.{expOf};
@@ -80,6 +81,14 @@ pub extern "C" fn bench_atan2f(y: f32, x: f32) -> f32
     ensures { λ r. ⌜ r ≡ atan2Of y x ⌝ }
 {
     libm::atan2f(y, x)
+}
+
+// The air's density at a height in m.
+#[no_mangle]
+pub extern "C" fn bench_density(height_m: f32) -> f32
+    ensures { λ r. ⌜ r ≡ densityAt «height_m» ⌝ }
+{
+    air::density(height_m)
 }
 
 // A reply as one number: the answer's in the low four bits, its place above them.

@@ -23,16 +23,21 @@ begin-by-requires c κs = search needs
 airframe-in-requires : tie.Need-airframe-in-requires
 airframe-in-requires c κs = search needs
 
+densities-requires : tie.Need-densities-requires
+densities-requires c κs = search needs
+
 tick-accepted-requires : tie.Need-tick-accepted-requires
 tick-accepted-requires c κs =
-    let t = c .before .before .before .before in
-    let a = c .before .airframe-in .ensures in (
+    let d = c .before .before in
+    let b = d .before .before in
+    let t = b .before .before in
+    let a = d .before .airframe-in .ensures in (
       ap refusedPlace a ∙ sym (t .before .before .before .refused-place .ensures) ∙ t .before .before .if1 .taken,
-      (simp (c .before .before .begin-by .ensures, t .lag-constants-in .ensures, a), t .before .powers-of-two .ensures),
+      (simp (b .begin-by .ensures, t .lag-constants-in .ensures, a), (t .before .powers-of-two .ensures, d .densities .ensures)),
     )
 
 returns : tie.Need-returns
-returns c = simp (c .tick-accepted .ensures, c .before .before .airframe-in .ensures)
+returns c = simp (c .tick-accepted .ensures, c .before .before .before .before .airframe-in .ensures)
 
 refused-requires : tie.Need-refused-requires
 refused-requires c κs = search needs
@@ -50,6 +55,7 @@ ticked-prepared-spec =
     lag-constants-in-requires
     begin-by-requires
     airframe-in-requires
+    densities-requires
     tick-accepted-requires
     returns
     refused-requires
