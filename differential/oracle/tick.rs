@@ -66,7 +66,7 @@ fn fly_on(airframe: &Airframe, state: &State, tick: &Tick) -> (Report, State) {
 }
 
 /// The originals' tick in the air handed in.
-fn fly_in_air(airframe: &Airframe, state: &State, tick: &Tick) -> (Report, State) {
+pub(crate) fn fly_in_air(airframe: &Airframe, state: &State, tick: &Tick) -> (Report, State) {
     let mut wing = wing(airframe, state);
     let mut body = body(state);
     let wind = vector(tick.wind);
