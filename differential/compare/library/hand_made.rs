@@ -159,7 +159,13 @@ pub fn differing(seed: u64, figures: &mut Figures) -> Option<Vec<f32>> {
         let (report, next) = expected(&case);
         let (airframe, next_state) = (airframe_of(&part(&case, 0)), state_of(&next));
         let (start, tick) = (state_of(&part(&case, STATE_AT)), part(&case, TICK_AT));
-        figures.ticked(&report, Some(&airframe), start.height_m(), &next_state, &tick);
+        figures.ticked(
+            &report,
+            Some(&airframe),
+            start.height_m(),
+            &next_state,
+            &tick,
+        );
         if differs(&case, &report, &next) {
             return Some(case.to_vec());
         }
