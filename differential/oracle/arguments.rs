@@ -188,8 +188,8 @@ pub fn row_heights() -> Vec<f32> {
     table().iter().map(|row| row.height_m).collect()
 }
 
-/// Each row with the floats next to it, 0 among them, the middles between the rows, numbers next to a
-/// row that a float of their size is not, the table's ends and beyond them, and the telling heights.
+/// Each row with the floats next to it, 0 among them, the middles between the rows, numbers so near to 0
+/// that they are rounded away, the table's ends and beyond them, and the telling heights.
 pub fn for_density() -> Vec<f32> {
     let rows = row_heights();
     let middles = rows.windows(2).map(|two| (two[0] + two[1]) / 2.0);

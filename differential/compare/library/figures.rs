@@ -101,14 +101,15 @@ impl Figures {
     }
 
     fn high(&mut self, answer: usize, height_m: f32, next_m: f32) {
+        if height_m.is_nan() {
+            return;
+        }
         let counts = if height_m == 0.0 {
             &mut self.at_zero
-        } else if height_m < ENDS_M.0 || height_m > ENDS_M.1 {
+        } else if !limits::within(height_m, ENDS_M) {
             &mut self.beyond_table
         } else if height_m % APART_M == 0.0 {
             &mut self.at_row
-        } else if height_m.is_nan() {
-            return;
         } else {
             &mut self.between_rows
         };
