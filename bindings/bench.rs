@@ -378,6 +378,7 @@ pub mod raw {
             pub safe fn bench_expf(x: f32) -> f32;
             pub safe fn bench_logf(v: f32) -> f32;
             pub safe fn bench_powf(v: f32, e: f32) -> f32;
+            pub safe fn bench_density(height_m: f32) -> f32;
             pub safe fn bench_sinf(x: f32) -> f32;
             pub safe fn bench_cosf(x: f32) -> f32;
             pub safe fn bench_asinf(s: f32) -> f32;
@@ -399,6 +400,10 @@ pub mod raw {
 
     pub fn powf(v: f32, e: f32) -> f32 {
         guarded(|| library::bench_powf(v, e))
+    }
+
+    pub fn density(height_m: f32) -> f32 {
+        guarded(|| library::bench_density(height_m))
     }
 
     pub fn sinf(x: f32) -> f32 {

@@ -1,10 +1,12 @@
-//! The elementary functions: document 01's and 02's formulas against the static library's.
+//! The elementary functions and the density: document 01's and 02's formulas against the static
+//! library's.
 
 use std::fs;
 use std::path::{Path, PathBuf};
 
 use bench::raw;
 use oracle::arguments;
+use oracle::density::{counts, density};
 use oracle::rng::Rng;
 use oracle::words::{answer, case, same};
 
@@ -26,7 +28,7 @@ fn each(all: Vec<f32>) -> Vec<Vec<f32>> {
     all.into_iter().map(|x| vec![x]).collect()
 }
 
-const FUNCTIONS: [Function; 8] = [
+const FUNCTIONS: [Function; 9] = [
     Function {
         name: "sqrtf",
         inputs: 1,
@@ -91,6 +93,14 @@ const FUNCTIONS: [Function; 8] = [
         fixed: || pairs(arguments::for_pow()),
         random: |rng| pair(arguments::random_power(rng)),
     },
+    Function {
+        name: "density",
+        inputs: 1,
+        oracle: |x| density(x[0]),
+        bench: |x| raw::density(x[0]),
+        fixed: || each(arguments::for_density()),
+        random: |rng| vec![arguments::random_height(rng)],
+    },
 ];
 
 fn pair(of: (f32, f32)) -> Vec<f32> {
@@ -131,10 +141,22 @@ pub fn every(name: &str, second: Option<f32>, folder: &Path) -> Option<Found> {
     let floats = (0..=u32::MAX).map(f32::from_bits);
     let arguments = floats.map(|x| [x, second.unwrap_or_default()]);
     let found = tried(function, arguments, 1 << 32, folder);
-    if let ("powf", Some(e)) = (name, second) {
-        println!("powf: above 1 before it is set to 1: {}", above_one(e));
+    match (name, second) {
+        ("powf", Some(e)) => println!("powf: above 1 before it is set to 1: {}", above_one(e)),
+        ("density", None) => print_counts(),
+        _ => {}
     }
     Some(found)
+}
+
+/// What the oracle's densities are from float to float.
+fn print_counts() {
+    let counts = counts();
+    println!(
+        "density: {} floats from -2000 m to 6000 m, {} outside their two rows' densities, {} larger than at \
+         the float just below",
+        counts.floats, counts.off_rows, counts.rising
+    );
 }
 
 /// How many floats from 0 to 1 have a power `e` above 1 before it is set to 1.

@@ -1,6 +1,7 @@
-//! Arguments for the elementary functions: the special numbers, the neighbours of every branch
-//! point, and seeded random ones.
+//! Arguments for the elementary functions and the density: the special numbers, the neighbours of every
+//! branch point, and seeded random ones.
 
+use crate::density::{ENDS_M, table};
 use crate::rng::Rng;
 
 /// Zeros, subnormals, ones, the largest, infinities and NaNs of either sign.
@@ -174,6 +175,41 @@ pub fn random_power(rng: &mut Rng) -> (f32, f32) {
         exponent(rng)
     };
     (v, e)
+}
+
+/// Heights whose densities tell the line between two rows, as 02 rounds it, from others: by times 0.01
+/// for over 100, by the product over 100, by a slope for each metre, by a fused sum, from the next row.
+pub const TELLING_HEIGHTS: [f32; 10] = [
+    -170.0, -146.0, 830.0, 854.0, 1883.5, 2018.0, 2491.0, 2691.0, 3791.0, 4973.5,
+];
+
+/// The heights of the rows of the table of densities.
+pub fn row_heights() -> Vec<f32> {
+    table().iter().map(|row| row.height_m).collect()
+}
+
+/// Each row with the floats next to it, 0 among them, the middles between the rows, numbers so near to 0
+/// that they are rounded away, the table's ends and beyond them, and the telling heights.
+pub fn for_density() -> Vec<f32> {
+    let rows = row_heights();
+    let middles = rows.windows(2).map(|two| (two[0] + two[1]) / 2.0);
+    let mut all = special();
+    all.extend(near_each(&rows, 1));
+    all.extend(middles);
+    all.extend(near_each(&[ENDS_M.0, ENDS_M.1], 3));
+    all.extend(both_signs(&[1.0e-9, 1.0e-3, 99.99999, 50.0]));
+    all.extend(both_signs(&[2000.0, 1.0e6, 16_777_216.0]));
+    all.extend([6000.0, 5050.0, -1050.0]);
+    all.extend(TELLING_HEIGHTS);
+    all
+}
+
+/// A random height: three of four from -2000 m to 6000 m.
+pub fn random_height(rng: &mut Rng) -> f32 {
+    if rng.once_in(4) {
+        return random(rng, 1.0e6);
+    }
+    rng.between(-2000.0, 6000.0)
 }
 
 /// The size limit 4, the quarter turns and the odd eighths, both signs.

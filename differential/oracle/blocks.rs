@@ -351,6 +351,11 @@ impl State {
         Some(Self::from_numbers(bytes, thrust_scale, lift_motors))
     }
 
+    /// The height, which is the position down negated.
+    pub fn height_m(&self) -> f32 {
+        -self.position[2]
+    }
+
     fn from_numbers(bytes: &[u8], thrust_scale: [f32; SLOTS], lift_motors: [f32; SLOTS]) -> Self {
         State {
             position: numbers(bytes, 0),

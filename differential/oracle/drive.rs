@@ -3,8 +3,10 @@
 
 use stable_flight::ActuatorCommand;
 
+use crate::air::with_density;
 use crate::blocks::{Airframe, SLOTS, State, Tick};
 use crate::body::Body;
+use crate::density::density_quickly;
 use crate::limits;
 use crate::lockstep::Dynamics;
 use crate::tick::{body, state_after, vector, wing};
@@ -75,7 +77,13 @@ impl Driver {
         kept
     }
 
+    /// The originals' tick in the air of the height where it starts.
     fn fly_on(&mut self, tick: &Tick) {
+        let density_kgpm3 = density_quickly(-self.body.position_ned_m.z);
+        with_density(density_kgpm3, || self.fly_in_air(tick));
+    }
+
+    fn fly_in_air(&mut self, tick: &Tick) {
         let command = ActuatorCommand {
             motors: tick.motors,
             servos: tick.servos,

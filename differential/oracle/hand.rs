@@ -1,7 +1,9 @@
 //! Document 01's cases: "Flown by hand" and the examples of "What the bench replies"; and document
-//! 02's refused winds, thrust scales, thrust exponents and, in `lift`, lift rotors.
+//! 02's refused winds, thrust scales, thrust exponents and, in `lift` and `thin_air`, lift rotors and the
+//! air's density.
 
 pub mod lift;
+pub mod thin_air;
 
 use core::hint::black_box;
 
@@ -40,6 +42,7 @@ pub fn check() -> bool {
         exponents(),
         pulls(),
         lift::all(),
+        thin_air::all(),
         flights(),
     ]
     .concat();

@@ -1,11 +1,12 @@
 //! Inputs of fly from a seed: airframes, states and ticks, plausible ones, ones at every limit,
 //! and damaged blocks.
 
-use crate::arguments::{SPECIAL, TURNING, exponent};
+use crate::arguments::{SPECIAL, TELLING_HEIGHTS, TURNING, exponent, near, row_heights};
 use crate::blocks::{
     AIRFRAME_NUMBERS, LIFT_NUMBERS, LIFT_PLACE, NO_LIFT_BYTES, SLOTS, STATE_BYTES, State,
     TICK_BYTES, TICK_NUMBERS, UNSCALED_BYTES, WASH_NUMBERS, write_state,
 };
+use crate::density::ENDS_M;
 use crate::limits::{self, Range};
 use crate::rng::Rng;
 
@@ -410,8 +411,37 @@ fn lifting(rng: &mut Rng) -> [f32; SLOTS] {
     lifting
 }
 
+/// A height anywhere over the table of densities and beyond it: often at a row, next to one or so near
+/// that a flight crosses it, at 0 of either sign, next to it, at the table's ends, or far away.
+fn height(rng: &mut Rng) -> f32 {
+    let row = rng.pick(&row_heights());
+    let end = rng.pick(&[ENDS_M.0, ENDS_M.1]);
+    match rng.below(16) {
+        0 => row,
+        1 => rng.pick(&near(row, 1)),
+        2 | 3 => row + rng.between(-1.0, 1.0),
+        4 => rng.pick(&[0.0, -0.0]),
+        5 => rng.pick(&[1.0e-9, -1.0e-9, f32::from_bits(1), -f32::from_bits(1)]),
+        6 => rng.scaled(-126, 0),
+        7 => rng.pick(&near(end, 2)),
+        8 => rng.scaled(13, 19),
+        9 => rng.between(-1.0e6, 1.0e6),
+        10 => rng.pick(&TELLING_HEIGHTS),
+        _ => rng.between(-2000.0, 6000.0),
+    }
+}
+
+/// Puts three states of four at such a height; the others, and those at the envelope's edge, stay.
+fn put_at_height(rng: &mut Rng, state: &mut State) {
+    let (lowest, highest) = limits::POSITION;
+    let inside = lowest < state.position[2] && state.position[2] < highest;
+    if inside && !rng.once_in(4) {
+        state.position[2] = -height(rng);
+    }
+}
+
 /// A state within the envelope, as `state` gives them, with any thrust scales, with motors at the
-/// edges of a power, and with lift rotors that run.
+/// edges of a power, with lift rotors that run, and at any height.
 pub fn tired_state(rng: &mut Rng) -> State {
     let mut state = State {
         thrust_scale: scales(rng),
@@ -419,6 +449,7 @@ pub fn tired_state(rng: &mut Rng) -> State {
         ..state(rng)
     };
     put_at_edges(rng, &mut state.motors);
+    put_at_height(rng, &mut state);
     state
 }
 

@@ -1,5 +1,6 @@
-//! The oracle: the original Rust files, unchanged, with document 01's stand-ins, and over them
-//! a second reading of 01's blocks, refusals, tick, run and fly.
+//! The oracle: the original Rust files, unchanged but for the constant of the air's density, with
+//! document 01's stand-ins, and over them a second reading of 01's blocks, refusals, tick, run and fly,
+//! and of 02's density.
 
 // The originals offer more than the tick calls.
 #![allow(dead_code)]
@@ -14,7 +15,8 @@ mod surfaces;
 mod tailsitter_model;
 mod wing;
 
-// What they name from files that are not here.
+// What they name from files that are not here; `air` is for one line of `aero`.
+mod air;
 mod delay;
 mod ground;
 mod lockstep;
@@ -24,6 +26,7 @@ mod quadplane_model;
 
 // Document 01, read a second time.
 pub mod blocks;
+pub mod density;
 pub mod drive;
 pub mod fly;
 pub mod hand;

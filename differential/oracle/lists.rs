@@ -10,7 +10,7 @@ mod libm;
 mod modules;
 
 /// Every list: its file name and what makes its text.
-const LISTS: [(&str, fn() -> String); 21] = [
+const LISTS: [(&str, fn() -> String); 22] = [
     ("sqrtf.txt", libm::sqrtf),
     ("expf.txt", libm::expf),
     ("sinf.txt", libm::sinf),
@@ -19,6 +19,7 @@ const LISTS: [(&str, fn() -> String); 21] = [
     ("asinf.txt", libm::asinf),
     ("logf.txt", libm::logf),
     ("powf.txt", libm::powf),
+    ("density.txt", libm::density),
     ("lag_factor.txt", modules::lag_factor),
     ("approach_saturated.txt", modules::approach_saturated),
     ("motors.txt", modules::motors),

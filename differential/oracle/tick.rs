@@ -1,12 +1,14 @@
 //! The tick and the run of document 01: its tests, and 02's of the wind, the thrust scales and the lift
-//! rotors, around the original `set_thrust_scale`, `begin`, `loads` and `step`.
+//! rotors, around the original `set_thrust_scale`, `begin`, `loads` and `step`, in the air of 02, 6.
 
 use stable_flight::mixers::TableMixer;
 use stable_flight::nalgebra::UnitQuaternion;
 use stable_flight::{ActuatorCommand, Vec3};
 
+use crate::air::with_density;
 use crate::blocks::{Airframe, Refusal, SLOTS, State, TICK_BYTES, Tick, read_tick, rotors};
 use crate::body::Body;
+use crate::density::density;
 use crate::fixed_wing::{AeroCoefficients, FixedWingModel, ThrustFalloff};
 use crate::limits;
 use crate::lockstep::Dynamics;
@@ -57,8 +59,14 @@ pub fn tick(airframe: &Airframe, state: &State, tick: &Tick) -> (Report, State) 
     (report, next)
 }
 
-/// The originals' tick, nothing tested.
+/// The originals' tick in the air of the height where it starts, nothing tested.
 fn fly_on(airframe: &Airframe, state: &State, tick: &Tick) -> (Report, State) {
+    let density_kgpm3 = density(state.height_m());
+    with_density(density_kgpm3, || fly_in_air(airframe, state, tick))
+}
+
+/// The originals' tick in the air handed in.
+pub(crate) fn fly_in_air(airframe: &Airframe, state: &State, tick: &Tick) -> (Report, State) {
     let mut wing = wing(airframe, state);
     let mut body = body(state);
     let wind = vector(tick.wind);

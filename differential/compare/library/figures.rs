@@ -1,6 +1,7 @@
 //! What the library's comparison counts.
 
 use oracle::blocks::{Airframe, SLOTS, State};
+use oracle::density::{APART_M, ENDS_M};
 use oracle::limits;
 use oracle::rows::TickRow;
 use oracle::tick::Report;
@@ -12,6 +13,12 @@ fn by_number(counts: &[u64], first: usize) -> String {
     let met = (first..).zip(counts).filter(|(_, count)| **count > 0);
     let words = met.map(|(number, count)| format!("{number}: {count}"));
     words.collect::<Vec<String>>().join(", ")
+}
+
+/// The number of rows of the table that are not above this height.
+fn row(height_m: f32) -> usize {
+    let rows = oracle::density::table().iter();
+    rows.filter(|row| row.height_m <= height_m).count()
 }
 
 #[derive(Default)]
@@ -45,6 +52,14 @@ pub struct Figures {
     /// 0, all of them within their limits; and of those from one beyond its limits.
     pub idle: [u64; 11],
     pub out_of_lift: [u64; 11],
+    /// How many of those did that start within the table of densities and not at a row, at a row, 0
+    /// apart, at height 0, and beyond the table's ends; and how many accepted ones end between other
+    /// rows than they start.
+    pub between_rows: [u64; 11],
+    pub at_row: [u64; 11],
+    pub at_zero: [u64; 11],
+    pub beyond_table: [u64; 11],
+    pub crossing: u64,
     pub runs: u64,
     pub run_ticks: u64,
     pub pairs: u64,
@@ -58,12 +73,13 @@ impl Figures {
         self.flights + self.damaged + self.hand_made
     }
 
-    /// Counts a tick of an airframe, where it was read, which hands back `next`: there its thrust scales
-    /// are, and the running values that its thrust is by.
+    /// Counts a tick of an airframe, where it was read, from a state at this height, which hands back
+    /// `next`: there its thrust scales are, and the running values that its thrust is by.
     pub fn ticked(
         &mut self,
         report: &Report,
         airframe: Option<&Airframe>,
+        height_m: f32,
         next: &State,
         tick: &TickRow,
     ) {
@@ -77,10 +93,28 @@ impl Figures {
             self.in_strong[answer] += 1;
         }
         self.scaled(answer, &next.thrust_scale);
+        self.high(answer, height_m, next.height_m());
         if let Some(airframe) = airframe {
             self.powered(answer, airframe.at(36), next);
             self.lift(answer, airframe, next);
         }
+    }
+
+    fn high(&mut self, answer: usize, height_m: f32, next_m: f32) {
+        if height_m.is_nan() {
+            return;
+        }
+        let counts = if height_m == 0.0 {
+            &mut self.at_zero
+        } else if !limits::within(height_m, ENDS_M) {
+            &mut self.beyond_table
+        } else if height_m % APART_M == 0.0 {
+            &mut self.at_row
+        } else {
+            &mut self.between_rows
+        };
+        counts[answer] += 1;
+        self.crossing += u64::from(row(height_m) != row(next_m));
     }
 
     fn powered(&mut self, answer: usize, exponent: f32, next: &State) {
@@ -165,6 +199,15 @@ impl Figures {
              one beyond its limits, {}",
             by_number(&self.idle, 0),
             by_number(&self.out_of_lift, 0)
+        );
+        println!(
+            "library: from a height between two rows of the table of densities, by number {}; from a row, \
+             {}; from 0, {}; from beyond the table, {}; accepted over a row, {}",
+            by_number(&self.between_rows, 0),
+            by_number(&self.at_row, 0),
+            by_number(&self.at_zero, 0),
+            by_number(&self.beyond_table, 0),
+            self.crossing
         );
         println!(
             "library: {} runs and {} mirrored pairs of {} ticks, {} blocks, {} rows of another length",

@@ -158,8 +158,14 @@ pub fn differing(seed: u64, figures: &mut Figures) -> Option<Vec<f32>> {
         next_tick(rng, &mut case[TICK_AT..]);
         let (report, next) = expected(&case);
         let (airframe, next_state) = (airframe_of(&part(&case, 0)), state_of(&next));
-        let tick = part(&case, TICK_AT);
-        figures.ticked(&report, Some(&airframe), &next_state, &tick);
+        let (start, tick) = (state_of(&part(&case, STATE_AT)), part(&case, TICK_AT));
+        figures.ticked(
+            &report,
+            Some(&airframe),
+            start.height_m(),
+            &next_state,
+            &tick,
+        );
         if differs(&case, &report, &next) {
             return Some(case.to_vec());
         }

@@ -100,7 +100,7 @@ pub fn fly(input: &Input, figures: &mut Figures) -> Option<Flown> {
         let other = expected_prepared(&read, &one, &state, &row);
         by_block.call(|state, report| raw::tick(input.airframe, state, &row, report));
         by_row.call(|state, report| raw::tick_prepared(&prepared, state, &row, report));
-        figures.ticked(&one.0, read.as_ref().ok(), &one.1, &row);
+        figures.ticked(&one.0, read.as_ref().ok(), state.height_m(), &one.1, &row);
         let next = state_row(&one.1);
         if !by_block.gave(&one.0, &next) || !by_row.gave(&other.0, &next) {
             return None;

@@ -1,5 +1,5 @@
 //! Inputs of fly at every limit: each number just inside and just outside its range, each
-//! header bit, each length around each boundary.
+//! header bit, each length around each boundary; and flights at heights of interest.
 
 use crate::arguments::{EXPONENTS, TURNING};
 use crate::blocks::{LIFT_NUMBERS, SLOTS, STATE_NUMBERS, State, TICK_NUMBERS};
@@ -32,6 +32,9 @@ pub fn all() -> Vec<Vec<u8>> {
         both_groups(),
         idle(),
         all_together(),
+        at_heights(),
+        over_rows(),
+        stalled_up_high(),
     ]
     .concat()
 }
@@ -470,6 +473,81 @@ fn all_together() -> Vec<Vec<u8>> {
     let mut state = lifting();
     state.velocity = [5.0, 1.0, -1.0];
     vec![powered(&flown, &state, 8)]
+}
+
+/// A small aeroplane with all of its coefficients, a motor and three servos, with a wash or without.
+fn aeroplane(washed: bool) -> AirframeBlock {
+    let mut block = hand::plain();
+    let coefficients = [
+        0.3, 5.0, 0.25, 20.0, 0.05, 0.8, -0.5, 0.2, -0.1, -0.5, 0.15, 0.2, 0.02, 0.05, -0.8, 0.5,
+        -6.0, -0.9, 0.5, 0.1, -0.05, -0.2, -0.1,
+    ];
+    block.numbers[7..30].copy_from_slice(&coefficients);
+    block.numbers[34] = 8.0;
+    block.rows = vec![
+        motor(0, [0.0; 3]),
+        servo(0, [1.0, 0.0, 0.0]),
+        servo(1, [0.0, 1.0, 0.0]),
+        servo(2, [0.0, 0.0, 1.0]),
+    ];
+    AirframeBlock {
+        wash: washed.then_some([0.1, 0.8, 0.5, -0.2, 1.5, 1.2, 0.3]),
+        ..block
+    }
+}
+
+/// In the air at this height: 12 m/s ahead, turning, the motor running, the surfaces deflected.
+fn airborne(height_m: f32) -> State {
+    let mut state = hand::at_rest();
+    state.position = [10.0, -20.0, -height_m];
+    state.velocity = [12.0, 0.5, 0.75];
+    state.rates = [0.25, -0.125, 0.5];
+    state.motors[0] = 0.75;
+    state.servos[..3].copy_from_slice(&[0.25, -0.5, 0.125]);
+    state
+}
+
+/// Flights that start at 0 of either sign, next to it, at a row, between rows, at the ends of the table
+/// and beyond them: ahead with every other one in a wash, and tail first in one.
+fn at_heights() -> Vec<Vec<u8>> {
+    let heights = [
+        0.0, -0.0, -1.0e-9, 99.99999, -50.0, 100.0, 2000.0, 2491.0, -1000.0, -1500.0, 5000.0,
+        7000.0, 1.0e6,
+    ];
+    let mut all = Vec::new();
+    for (at, height_m) in heights.into_iter().enumerate() {
+        let ahead = airborne(height_m);
+        let mut back = ahead;
+        back.velocity[0] = -4.0;
+        all.push(powered(&aeroplane(at % 2 == 1), &ahead, 2));
+        all.push(powered(&aeroplane(true), &back, 2));
+    }
+    all
+}
+
+/// Flights that climb and fall over a row, over 0 and over the table's ends, in a wash and without.
+fn over_rows() -> Vec<Vec<u8>> {
+    let mut all = Vec::new();
+    for (at, row) in [0.0, 1900.0, -1000.0, 5000.0].into_iter().enumerate() {
+        for down in [4.0, -4.0] {
+            let mut state = airborne(row + 0.02 * down);
+            state.velocity[2] = down;
+            all.push(powered(&aeroplane(at % 2 == 0), &state, 4));
+        }
+    }
+    all
+}
+
+/// Past the stall at 3333 m, nose first and broadside, in a wash and without.
+fn stalled_up_high() -> Vec<Vec<u8>> {
+    let flight = |ahead: f32| {
+        [false, true].map(|washed| {
+            let mut state = airborne(3333.0);
+            state.velocity = [ahead, 0.5, 7.0];
+            powered(&aeroplane(washed), &state, 3)
+        })
+    };
+    [7.0, 0.25].into_iter().flat_map(flight).collect()
 }
 
 /// A flight of ticks of 1/64 s with all motors at half command.

@@ -1,6 +1,7 @@
-//! Lists of the elementary functions.
+//! Lists of the elementary functions, and of the density.
 
 use crate::arguments;
+use crate::density;
 use crate::rng::Rng;
 use crate::words::case;
 
@@ -78,6 +79,20 @@ pub fn atan2f() -> String {
 pub fn logf() -> String {
     let fixed = arguments::for_log();
     unary("logf", "document 02's formula", libm::logf, fixed, 4.0)
+}
+
+pub fn density() -> String {
+    let mut rng = Rng::new(4);
+    let random = (0..200).map(|_| arguments::random_height(&mut rng));
+    let mut text = format!(
+        "# density: height_m > density_kgpm3. Made by differential/lists (document 02's table by ISO \
+         2533's law, straight between its rows); {HOW}\n"
+    );
+    for height_m in arguments::for_density().into_iter().chain(random) {
+        text += &case(&[height_m], &[density::density(height_m)]);
+        text.push('\n');
+    }
+    text
 }
 
 pub fn powf() -> String {
