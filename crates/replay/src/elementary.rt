@@ -1,4 +1,4 @@
-// The lists of `libm`'s functions: one word in, or two, and one out.
+// The lists of `libm`'s functions and of the air's density: one word in, or two, and one out.
 ghost use Prim.Native.Nat.{_≤_};
 
 // A list's function puts its answers at the start of out, as bits, and says how many there are: none
@@ -63,4 +63,10 @@ pub fn powf(w: &[u32; 192], inputs: usize, out: &mut [u32; 64]) -> usize
     let v = float::from_bits(w[0]);
     let e = float::from_bits(w[1]);
     one(inputs, 2, libm::powf(v, e), out)
+}
+
+pub fn density(w: &[u32; 192], inputs: usize, out: &mut [u32; 64]) -> usize
+    ensures { λ n. ⌜ n ≤ 64 ⌝ }
+{
+    one(inputs, 1, air::density(float::from_bits(w[0])), out)
 }

@@ -103,6 +103,7 @@ fn main() {
     run(b"atan2f", b"atan2f.txt", List::Atan2f, &mut buf);
     run(b"logf", b"logf.txt", List::Logf, &mut buf);
     run(b"powf", b"powf.txt", List::Powf, &mut buf);
+    run(b"density", b"density.txt", List::Density, &mut buf);
     run(b"lag_factor", b"lag_factor.txt", List::LagFactor, &mut buf);
     run(
         b"approach_saturated",
