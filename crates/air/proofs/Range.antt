@@ -126,9 +126,9 @@ where-is h p = go (le h (heightOf 0)) (le (heightOf lastRow) h) refl refl
     go false false e f =
         let w = between-ends h p e f in
         inr (inr (record {
-          row = rowFrom 59 h;
+          row = rowFrom lastRow h;
           inside = row-inside h w;
-          on = record { over = over-row h w; under = lt→le h (heightOf (suc (rowFrom 59 h))) (under-next h w) };
+          on = record { over = over-row h w; under = lt→le h (heightOf (suc (rowFrom lastRow h))) (under-next h w) };
           over = w .above;
           under = under-next h w;
           is = rw (e, f);

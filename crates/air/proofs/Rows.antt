@@ -113,7 +113,7 @@ row-below zero h b = b
 row-below (suc n) h b = by-cases (λ (i : ℕ). T (le (heightOf i) h)) (le (heightOf (suc n)) h) (λ e. subst T (sym e) tt) (row-below n h b)
 
 -- and the next one is
-pub row-above : (n : ℕ) (h : Float) → n < lastRow → T (finite h) → T (lt h (heightOf (suc n))) → T (lt h (heightOf (suc (rowFrom n h))))
+pub row-above : (n : ℕ) (h : Float) → n < rowCount → T (finite h) → T (lt h (heightOf (suc n))) → T (lt h (heightOf (suc (rowFrom n h))))
 unfolding rowFrom
 row-above zero h l p b = b
 row-above (suc n) h l p b = go (le (heightOf (suc n)) h) refl (row-above n h (omega (arith, l)) p)
@@ -192,19 +192,20 @@ row-in i l = let both = all→ (tests i) (everyBelow→ (λ (i : ℕ). allb (tes
 pub record Guessed (h : Float) (z : ℤ) : Type 0 where
   pub k : ℕ
   pub is : z ≡ pos k
-  pub at-least : rowFrom 59 h ≤ k
-  pub at-most : k ≤ suc (rowFrom 59 h)
+  pub at-least : rowFrom lastRow h ≤ k
+  pub at-most : k ≤ suc (rowFrom lastRow h)
 
-guessed-from : (h : Float) (z : ℤ) → T (leZ (pos (rowFrom 59 h)) z) → T (leZ z (pos (suc (rowFrom 59 h)))) → Guessed h z
-guessed-from h (pos k) a b = record { k = k; is = refl; at-least = leb→le (rowFrom 59 h) k a; at-most = leb→le k (suc (rowFrom 59 h)) b }
+guessed-from : (h : Float) (z : ℤ) → T (leZ (pos (rowFrom lastRow h)) z) → T (leZ z (pos (suc (rowFrom lastRow h)))) → Guessed h z
+guessed-from h (pos k) a b = record { k = k; is = refl; at-least = leb→le (rowFrom lastRow h) k a; at-most = leb→le k (suc (rowFrom lastRow h)) b }
 guessed-from h (negsuc k) a b = absurd a
+
+beyond-top : T (finite (heightOf rowCount)) × T (le (heightOf lastRow) (heightOf rowCount))
+unfolding heightOf ofInt round le
+beyond-top = (tt, tt)
 
 module _ (h : Float) (in-table : Inside h) where
   abbrev i : ℕ
-  i = rowFrom 59 h
-
-  pub row-inside : i < lastRow
-  row-inside = omega (arith, row-most 59 h)
+  i = rowFrom lastRow h
 
   pub inside-table : WithinTable h
   inside-table = record { at-least = lt→le (heightOf 0) h (in-table .above); at-most = lt→le h (heightOf lastRow) (in-table .below) }
@@ -213,10 +214,13 @@ module _ (h : Float) (in-table : Inside h) where
   inside-finite = table-finite h inside-table
 
   pub over-row : T (le (heightOf i) h)
-  over-row = row-below 59 h (inside-table .at-least)
+  over-row = row-below lastRow h (inside-table .at-least)
 
   pub under-next : T (lt h (heightOf (suc i)))
-  under-next = row-above 59 h (omega arith) inside-finite (in-table .below)
+  under-next = row-above lastRow h (omega arith) inside-finite (lt-le h (heightOf lastRow) (heightOf rowCount) inside-finite (height-finite lastRow (omega arith)) (beyond-top .0) (in-table .below) (beyond-top .1))
+
+  pub row-inside : i < lastRow
+  row-inside = elim (eq-or-lt-of-le (row-most lastRow h)) [ inl e ↦ absurd (T-not (lt h (heightOf lastRow)) (le→not-lt h (heightOf lastRow) inside-finite (height-finite lastRow (omega arith)) (subst (λ (k : ℕ). T (le (heightOf k) h)) e over-row)) (in-table .below)) | inr l ↦ l ]
 
   pub guessed : Guessed h (guess h)
   guessed =

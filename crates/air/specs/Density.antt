@@ -6,12 +6,12 @@ use mathlib.Core.Bool.{cond}
 use mathlib.Core.List.{List, [], _∷_, map}
 use Rattle.float.specs.Notation.{_⊕_, _⊖_, _⊗_, _⊘_, rounded}
 
--- how many rows there are, counted from 0
-abbrev pub rowCount : ℕ
-rowCount = 61
-
+-- the rows, counted from 0
 abbrev pub lastRow : ℕ
 lastRow = 60
+
+abbrev pub rowCount : ℕ
+rowCount = suc lastRow
 
 -- the density at each row's height, in ten-thousandths of 1 kg/m³: ISO 2533's 1.225 · (1 - 0.0065 · H / 288.15) ^ 4.25588, rounded to
 -- four decimals
@@ -103,4 +103,4 @@ between i h = densityOf i ⊕ (densityOf (suc i) ⊖ densityOf i) ⊗ ((h ⊖ he
 unfoldable pub densityAt : Float → Float
 densityAt h =
     cond (le h (heightOf 0)) (densityOf 0)
-    (cond (le (heightOf lastRow) h) (densityOf lastRow) (between (rowFrom 59 h) h))
+    (cond (le (heightOf lastRow) h) (densityOf lastRow) (between (rowFrom lastRow h) h))

@@ -4,7 +4,9 @@ ghost use Prim.Native.Nat.{_<_};
 ghost use Rattle.air.specs.Contracts as Contracts;
 ghost use Rattle.air.specs.Density as Density;
 
-pub const ROW_COUNT: usize = 61;
+pub const ROW_COUNT: usize = LAST_ROW + 1;
+
+const LAST_ROW: usize = 60;
 
 // The density at each row's height, in kg/m³.
 const TABLE: [f32; ROW_COUNT] = [
@@ -87,7 +89,7 @@ pub fn density_with(height_m: f32, densities: &[f32; ROW_COUNT]) -> f32
         return densities[0];
     }
     if height_m >= 5000.0 {
-        return densities[60];
+        return densities[LAST_ROW];
     }
     if height_m != height_m {
         return height_m;
@@ -115,7 +117,7 @@ fn row_height(row: u32) -> f32
 // one row too high.
 fn row_below(height_m: f32) -> u32
     requires { ⌜ Contracts.Inside «height_m» ⌝ }
-    ensures { λ r. ⌜ r ≡ Density.rowFrom 59 «height_m» ⌝ }
+    ensures { λ r. ⌜ r ≡ Density.rowFrom Density.lastRow «height_m» ⌝ }
 {
     let guess = float::truncated((height_m + 1000.0) / 100.0) as u32;
     if height_m < row_height(guess) {

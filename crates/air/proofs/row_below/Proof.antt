@@ -12,7 +12,7 @@ use mir.ValLaws.{toZ-ofZ}
 use native.Mathlib.Omega.{arith}
 use Rattle.air.proofs.Rows.{Guessed, guess, guessed, kept, quotient-small, row-inside, stepped-down}
 use Rattle.air.specs.Contracts.{Inside}
-use Rattle.air.specs.Density.{heightOf, rowCount, rowFrom}
+use Rattle.air.specs.Density.{heightOf, lastRow, rowCount, rowFrom}
 use Rattle.air.proofs.row_below.Statement.{statement}
 use Rattle.air.proofs.row_below.Tie as tie
 
@@ -44,10 +44,10 @@ module _ (h : Float) (w : Inside h) (z : ℤ) (is : z ≡ guess h) where
   is-row = rw read-back in-table
 
   module _ (r : Float) (made : r ≡ heightOf (natAbs (toZ w64 (ofZ w64 z)))) where
-    down : lt h r ≡ true → natAbs (toZ w64 (ofZ w64 z)) ≡ suc (rowFrom 59 h)
+    down : lt h r ≡ true → natAbs (toZ w64 (ofZ w64 z)) ≡ suc (rowFrom lastRow h)
     down e = ap natAbs read-back ∙ stepped-down h w (g .k) (g .at-least) (g .at-most) (sym (ap (lt h) (made ∙ ap (λ (z : ℤ). heightOf (natAbs z)) read-back)) ∙ e)
 
-    stays : lt h r ≡ false → natAbs (toZ w64 (ofZ w64 z)) ≡ rowFrom 59 h
+    stays : lt h r ≡ false → natAbs (toZ w64 (ofZ w64 z)) ≡ rowFrom lastRow h
     stays e = ap natAbs read-back ∙ kept h w (g .k) (g .at-least) (g .at-most) (sym (ap (lt h) (made ∙ ap (λ (z : ℤ). heightOf (natAbs z)) read-back)) ∙ e)
 
 one-less : (n i : ℕ) → n ≡ suc i → n - 1 ≡ i
@@ -64,17 +64,17 @@ row-height-requires : tie.Need-row-height-requires
 unfolding ofBits round
 row-height-requires c κs = is-row (c .before .args .height-m) (c .before .pre) (c .truncated .result) (c .truncated .ensures .0)
 
-went-down : (c : tie.Then1) → natAbs (toZ w64 (ofZ w64 (c .before .before .truncated .result))) ≡ suc (rowFrom 59 (c .before .before .before .args .height-m))
+went-down : (c : tie.Then1) → natAbs (toZ w64 (ofZ w64 (c .before .before .truncated .result))) ≡ suc (rowFrom lastRow (c .before .before .before .args .height-m))
 unfolding ofBits round
 went-down c =
     let g = c .before .before in
     down (g .before .args .height-m) (g .before .pre) (g .truncated .result) (g .truncated .ensures .0) (c .before .row-height .result) (c .before .row-height .ensures) (c .if1 .taken)
 
 sub-result : tie.Need-sub-result
-sub-result c = some (natAbs (toZ w64 (ofZ w64 (c .before .before .truncated .result)))) (rowFrom 59 (c .before .before .before .args .height-m)) (went-down c)
+sub-result c = some (natAbs (toZ w64 (ofZ w64 (c .before .before .truncated .result)))) (rowFrom lastRow (c .before .before .before .args .height-m)) (went-down c)
 
 returns : tie.Need-returns
-returns c = one-less (natAbs (toZ w64 (ofZ w64 (c .before .before .truncated .result)))) (rowFrom 59 (c .before .before .before .args .height-m)) (went-down c)
+returns c = one-less (natAbs (toZ w64 (ofZ w64 (c .before .before .truncated .result)))) (rowFrom lastRow (c .before .before .before .args .height-m)) (went-down c)
 
 returns-2 : tie.Need-returns-2
 unfolding ofBits round
