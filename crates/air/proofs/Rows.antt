@@ -51,9 +51,8 @@ pub record Step (i : ℕ) : Type 0 where
   pub not-up : T (le (rise i) nought)
   pub at-foot : T (le nought (heightOf i ⊖ heightOf i))
   pub at-top : T (le (heightOf (suc i) ⊖ heightOf i) (rounded 100 1))
-  -- the next row is higher, its density lower, and at the step's two ends the formula stays within the two rows' densities
+  -- the next row is higher, and at the step's two ends the formula stays within the two rows' densities
   pub climbs : T (le (heightOf i) (heightOf (suc i)))
-  pub falls : T (le (densityOf (suc i)) (densityOf i))
   pub starts : T (le (between i (heightOf i)) (densityOf i))
   pub ends : T (le (densityOf (suc i)) (between i (heightOf (suc i))))
 
@@ -67,7 +66,6 @@ stepTests i =
     ∷ le nought (heightOf i ⊖ heightOf i)
     ∷ le (heightOf (suc i) ⊖ heightOf i) (rounded 100 1)
     ∷ le (heightOf i) (heightOf (suc i))
-    ∷ le (densityOf (suc i)) (densityOf i)
     ∷ le (between i (heightOf i)) (densityOf i)
     ∷ le (densityOf (suc i)) (between i (heightOf (suc i)))
     ∷ []
@@ -77,11 +75,19 @@ unfolding everyBelow between densityOf densities tenThousandths heightOf ofInt a
 steps-pass = tt
 
 named : (i : ℕ) → All (stepTests i) → Step i
-named i (here, (of-rise, (of-whole, (of-none, (not-up, (at-foot, (at-top, (climbs, (falls, (starts, (ends, rest))))))))))) =
-    record { here = here; of-rise = of-rise; of-whole = of-whole; of-none = of-none; not-up = not-up; at-foot = at-foot; at-top = at-top; climbs = climbs; falls = falls; starts = starts; ends = ends }
+named i (here, (of-rise, (of-whole, (of-none, (not-up, (at-foot, (at-top, (climbs, (starts, (ends, rest)))))))))) =
+    record { here = here; of-rise = of-rise; of-whole = of-whole; of-none = of-none; not-up = not-up; at-foot = at-foot; at-top = at-top; climbs = climbs; starts = starts; ends = ends }
 
 pub step : (i : ℕ) → i < lastRow → Step i
 step i l = named i (all→ (stepTests i) (everyBelow→ (λ (i : ℕ). allb (stepTests i)) lastRow steps-pass i l))
+
+-- ---- from each row to the next higher the density falls
+rows-tested : T (everyBelow (λ (i : ℕ). lt (densityOf (suc i)) (densityOf i)) lastRow)
+unfolding everyBelow densityOf densities tenThousandths round lt
+rows-tested = tt
+
+pub row-falls : (i : ℕ) → i < lastRow → T (lt (densityOf (suc i)) (densityOf i))
+row-falls i l = everyBelow→ (λ (i : ℕ). lt (densityOf (suc i)) (densityOf i)) lastRow rows-tested i l
 
 -- ---- the rows in order: higher, and not denser
 in-order : (R : ℕ → ℕ → Type 0) → ((i : ℕ) → i < rowCount → R i i) → ((i j : ℕ) → i ≤ j → j < lastRow → R i j → R i (suc j)) → (i j : ℕ) → i ≤ j → j < rowCount → R i j
@@ -95,7 +101,7 @@ pub heights-climb : (i j : ℕ) → i ≤ j → j < rowCount → T (le (heightOf
 heights-climb = in-order (λ (i j : ℕ). T (le (heightOf i) (heightOf j))) (λ i l. le-self (heightOf i) (height-finite i l)) (λ i j a l h. le-trans-float (heightOf i) (heightOf j) (heightOf (suc j)) h (step j l .climbs))
 
 pub densities-fall : (i j : ℕ) → i ≤ j → j < rowCount → T (le (densityOf j) (densityOf i))
-densities-fall = in-order (λ (i j : ℕ). T (le (densityOf j) (densityOf i))) (λ i l. le-self (densityOf i) (density-finite i l)) (λ i j a l h. le-trans-float (densityOf (suc j)) (densityOf j) (densityOf i) (step j l .falls) h)
+densities-fall = in-order (λ (i j : ℕ). T (le (densityOf j) (densityOf i))) (λ i l. le-self (densityOf i) (density-finite i l)) (λ i j a l h. le-trans-float (densityOf (suc j)) (densityOf j) (densityOf i) (lt→le (densityOf (suc j)) (densityOf j) (row-falls j l)) h)
 
 -- ---- the row of a height
 pub row-most : (n : ℕ) (h : Float) → rowFrom n h ≤ n
