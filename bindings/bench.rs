@@ -27,6 +27,13 @@ pub fn motors_as_built(state: &mut State) {
     state[STATE_SCALES..STATE_SCALES + SLOTS].fill(1.0);
 }
 
+/// The air's density in kg/m³ at a height over the sea in m, which is a state's position down negated:
+/// 1.225 at 0, less above, the same at and beyond the ends of its table, -1000 m and 5000 m. A tick has
+/// the density of the height where it starts. NaN for a NaN.
+pub fn density(height_m: f32) -> f32 {
+    raw::density(height_m)
+}
+
 /// In order: the step (s), the wind (north, east, down; m/s), and the commands of 8 motors and of
 /// 8 servos.
 pub type Tick = [f32; TICK_NUMBERS];

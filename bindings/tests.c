@@ -102,21 +102,21 @@ struct calls {
     uint64_t (*mirrored_pair)(const uint8_t *, size_t, float *, size_t, float *, size_t, const uint8_t *, size_t, uint64_t *,
                               uint64_t *);
     float (*sqrtf)(float), (*expf)(float), (*sinf)(float), (*cosf)(float), (*asinf)(float), (*atan2f)(float, float);
-    float (*logf)(float), (*powf)(float, float);
+    float (*logf)(float), (*powf)(float, float), (*density)(float);
 };
 
 #define CALLS(FORM)                                                                                                         \
     {                                                                                                                       \
         FORM##read_airframe, FORM##prepare, FORM##read_state, FORM##write_state, FORM##read_tick, FORM##write_tick,         \
             FORM##tick, FORM##tick_prepared, FORM##run, FORM##mirrored_pair, FORM##sqrtf, FORM##expf, FORM##sinf,           \
-            FORM##cosf, FORM##asinf, FORM##atan2f, FORM##logf, FORM##powf                                                   \
+            FORM##cosf, FORM##asinf, FORM##atan2f, FORM##logf, FORM##powf, FORM##density                                    \
     }
 static const struct calls plain = CALLS(bench_), guarded = CALLS(bench_guarded_);
 
 /* What all calls give on the sample. */
 struct results {
     uint64_t replies[10], accepted[3];
-    float airframe[A], tick[T], start[S], by_block[S], prepared[S], report[2][R], ran[S], pair[2][S], functions[8];
+    float airframe[A], tick[T], start[S], by_block[S], prepared[S], report[2][R], ran[S], pair[2][S], functions[9];
     uint8_t state_block[BENCH_STATE_BYTES], tick_block[BENCH_TICK_BYTES];
 };
 
@@ -161,6 +161,7 @@ static void compute(const struct calls *call, struct results *r)
     r->functions[5] = call->atan2f(1.0f, 3.0f);
     r->functions[6] = call->logf(0.3f);
     r->functions[7] = call->powf(0.3f, 1.8f);
+    r->functions[8] = call->density(1234.5f);
 }
 
 static void make_all(const struct calls *call, const struct sample *s, struct results *r)

@@ -5,6 +5,8 @@
 mod environments;
 #[path = "tests/exponents.rs"]
 mod exponents;
+#[path = "tests/heights.rs"]
+mod heights;
 #[path = "tests/lift.rs"]
 mod lift;
 #[path = "tests/limits.rs"]

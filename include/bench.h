@@ -36,9 +36,11 @@ extern "C" {
  * 10, after 8 and before 9. 4 has eight thrust scales more in a state: its array has 37 floats, not 29, and its block 148 bytes,
  * not 116, which are still read. 5 takes thrust exponents (place 36) from 1 to 3, not 2 alone, and has bench_logf and
  * bench_powf. 6 has lift rotors: the bits of header and row that announce them are no longer refused, a state has eight running
- * values more (45 floats, 180 bytes; 148 and 116 are still read), an airframe's array 39 floats more at its end. */
+ * values more (45 floats, 180 bytes; 148 and 116 are still read), an airframe's array 39 floats more at its end. 7 takes the air's
+ * density by the height where a tick starts, not 1.225 kg/m3 everywhere, and has bench_density; a tick that starts at 0 m is what
+ * it was. */
 #define BENCH_BLOCK_VERSION 1
-#define BENCH_CALLS_VERSION 6
+#define BENCH_CALLS_VERSION 7
 
 /* How many floats each array has. */
 #define BENCH_AIRFRAME_NUMBERS 145
@@ -200,7 +202,7 @@ static inline size_t bench_airframe_length(const uint8_t header[2])
 
 /* Where the numbers of a state's array start; they stand in the same order in its block. */
 enum bench_state_places {
-    BENCH_STATE_POSITION = 0,  /* 3: north, east, down, in m */
+    BENCH_STATE_POSITION = 0,  /* 3: north, east, down, in m; down negated is the height over the sea */
     BENCH_STATE_VELOCITY = 3,  /* 3: north, east, down, in m/s */
     BENCH_STATE_ATTITUDE = 6,  /* 4: w, i, j, k */
     BENCH_STATE_RATES = 10,    /* 3: body rates p, q, r, in rad/s */
@@ -285,7 +287,8 @@ uint64_t bench_write_tick(const float *tick, size_t tick_len, uint8_t *block, si
  * and thrust in the report's array of 3. Each motor's thrust is multiplied by its scale, and no tick changes a scale. With lift
  * numbers the lift rotors push along body -z, by their running values alone: airspeed takes nothing of it, and no scale does. Air
  * along their discs drags them, by place 57 times their thrust times its speed ahead and its speed to the side. A motor of either
- * group that no row names keeps its running value, and works by it. Refused, the first that holds: an array of another length (1),
+ * group that no row names keeps its running value, and works by it. The air has the density of the height where the tick starts, as
+ * bench_density gives it. Refused, the first that holds: an array of another length (1),
  * which leaves state and report as found; a refused block, with bench_read_airframe's reply; the state outside the envelope (7);
  * the step not in 1/1024..0.02 s (8); a component of the wind that is a NaN or beyond 200 m/s either way (10); a departure (9). But
  * for an array's length, a refusal leaves the state as found and reports zeros. Commands may be any floats: one that is NaN counts
@@ -338,6 +341,13 @@ float bench_cosf(float x);
 float bench_asinf(float s);
 /* The angle of the point (x, y); -0 counts as 0, and the angle of (0, 0) is 0. */
 float bench_atan2f(float y, float x);
+
+/* ---- The air ---- */
+
+/* The air's density in kg/m3 at a height over the sea in m, which is a state's position down negated: 1.225 at 0. ISO 2533's, by a
+ * table with a row each 100 m from -1000 m (1.3470) to 5000 m (0.7361), four decimals each, straight between two rows; at the ends and
+ * beyond them the end's. NaN for a NaN. */
+float bench_density(float height_m);
 
 /* ---- The guarded forms: the calls from any float environment (gcc and clang on x86-64) ---- */
 #if defined(__x86_64__) && defined(__GNUC__)
@@ -405,6 +415,7 @@ BENCH_GUARDED(float, sqrtf, (float x), (x))
 BENCH_GUARDED(float, expf, (float x), (x))
 BENCH_GUARDED(float, logf, (float v), (v))
 BENCH_GUARDED(float, powf, (float v, float e), (v, e))
+BENCH_GUARDED(float, density, (float height_m), (height_m))
 BENCH_GUARDED(float, sinf, (float x), (x))
 BENCH_GUARDED(float, cosf, (float x), (x))
 BENCH_GUARDED(float, asinf, (float s), (s))

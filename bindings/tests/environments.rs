@@ -129,6 +129,7 @@ fn functions(_: &Sample) -> Given {
     let mut given = Given::default();
     given.numbers(&[raw::sqrtf(2.0), raw::expf(1.0), raw::sinf(1.0), raw::cosf(1.0)]);
     given.numbers(&[raw::asinf(0.3), raw::atan2f(1.0, 3.0), raw::logf(0.3), raw::powf(0.3, 1.8)]);
+    given.numbers(&[raw::density(1234.5)]);
     given
 }
 

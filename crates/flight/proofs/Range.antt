@@ -1,4 +1,4 @@
--- What a state inside the envelope tells of its velocity, its attitude's N, its running values, the lift rotors' too, and its thrust scales. Assumes nothing.
+-- What a state inside the envelope tells of its position, its velocity, its attitude's N, its running values, the lift rotors' too, and its thrust scales. Assumes nothing.
 use Prim.Native.Nat.{_<_, ℕ}
 use borrow.Author.Tests.{eq-eqb}
 use mathlib.Core.Path.{_∙_, _≡_, sym}
@@ -14,6 +14,10 @@ use Rattle.flight.specs.Envelope.{outsideOf, slotInside, slotsOutside}
 use Rattle.flight.specs.declared.Flight.{Flight}
 
 module _ (f : Flight) (e : outsideOf f ≡ 0) where
+  pub position-within : VecWithin (rounded 1000000 1) (f .body .«position_ned_m»)
+  unfolding outsideOf
+  position-within = vec-within _ _ (sym (none-vec _ _) ∙ eq-eqb _ _ (or-none _ _ e .0))
+
   pub velocity-within : VecWithin (rounded 1000 1) (f .body .«velocity_ned_mps»)
   unfolding outsideOf
   velocity-within =

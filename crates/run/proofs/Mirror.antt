@@ -3,6 +3,7 @@ use Prim.Native.Nat.{_+_, ℕ}
 use mathlib.Core.Bool.{Bool, cond, false, true}
 use mathlib.Core.List.{List, [], _∷_, map}
 use mathlib.Core.Path.{_∙_, _≡_, ap, ap₂, refl}
+use borrow.Author.Tests.{eq-eqb, eqb-true}
 use Rattle.airframe.proofs.Mirror.{reflect-airframe}
 use Rattle.airframe.specs.Reflection.{AirframeRel, reflectAirframe}
 use Rattle.airframe.specs.declared.Airframe.{Airframe}
@@ -10,13 +11,14 @@ use Rattle.answers.specs.Answers.{numberOf, placeOf}
 use Rattle.answers.specs.declared.Answer.{Answer}
 use Rattle.answers.specs.declared.Answer.the-variants.{Done, WrongLength}
 use Rattle.flight.proofs.Mirror.{outside-is, reflect-flight, reflect-tick}
-use Rattle.flight.specs.Envelope.{outsideOf}
+use Rattle.flight.specs.Envelope.{isInside, outsideOf}
 use Rattle.flight.specs.Reflection.{FlightRel, TickRel, reflectFlight, reflectTick}
 use Rattle.flight.specs.declared.Flight.{Flight}
 use Rattle.flight.specs.declared.Tick.{Tick}
 use Rattle.motors.proofs.Range as Group
 use Rattle.motors.proofs.Range.{still-after, still-same}
-use Rattle.wing.proofs.Mirror.{tick-mirror}
+use Rattle.wing.proofs.Height.{density-for-in}
+use Rattle.wing.proofs.Mirror.{density-for-is, tick-mirror}
 use Rattle.wing.proofs.Range.{accepted-running, tick-keeps}
 use Rattle.wing.proofs.Wind.{tick-angles}
 use Rattle.wing.specs.Reflection.{TickedRel}
@@ -24,6 +26,7 @@ use Rattle.wing.proofs.Running.{Held, Running, Still}
 use Rattle.wing.specs.Tick.{tickOf}
 use Rattle.wing.specs.declared.Ticked.{Ticked}
 use Rattle.run.proofs.Calls.{all-calls, is-its-calls}
+use Rattle.run.proofs.Turns.{stays-inside}
 use Rattle.run.specs.Calls.{Each, each-more, each-none}
 use Rattle.run.specs.Mirrored.{Agree, All, Angles, InRange, Mirrored, RanRel, Ranges}
 use Rattle.run.specs.Run.{Progress, callsOf, ended, isWhole, oneIfDone, progressed, ranOver, runFrom, runOf}
@@ -42,6 +45,7 @@ agree h = record {
   thrust = h .report .thrust;
   beta = h .report .beta;
   state = h .flight;
+  density = density-for-is (h .flight);
 }
 
 -- ---- the whole list, for airframes, states and lists of ticks that are each other's reflections number for number
@@ -80,14 +84,15 @@ ran-mirror a f s ts = go (isWhole s)
     go false = record { answer = refl; state = reflect-flight f; count = refl }
 
 -- ---- the ranges
-in-range : (a : Airframe) (start f : Flight) → Running f → Still a start f → InRange a start f
-in-range a start f r s = record {
+in-range : (a : Airframe) (start f : Flight) → outsideOf f ≡ 0 → Running f → Still a start f → InRange a start f
+in-range a start f o r s = record {
   motors = Group.in-range (r .motors) (s .motors);
   surface = r .servo;
   scale = r .scale;
   unaltered = s .scale;
   lift = Group.in-range (r .lift) (s .lift);
   unlifted = s .unlifted;
+  density = density-for-in f o;
 }
 
 still-more : {a : Airframe} {start f g : Flight} → Still a start f → Still a f g → Still a start g
@@ -98,13 +103,21 @@ still-more s t = record {
   unlifted = λ p. t .unlifted p ∙ s .unlifted p;
 }
 
+stays-accepted : (a : Airframe) (f : Flight) (t : Tick) → outsideOf f ≡ 0 → outsideOf (tickOf a f t .flight) ≡ 0
+unfolding isInside
+stays-accepted a f t o = eqb-true _ _ (stays-inside a f t (eq-eqb _ _ o))
+
 -- what the states of a run from `start` keep
 abbrev Kept : Airframe → Flight → Flight → Type 0
-Kept a start f = Held f × Running f × Still a start f
+Kept a start f = (outsideOf f ≡ 0) × Held f × Running f × Still a start f
 
 ranges-from : (a : Airframe) (start f : Flight) (ts : List Tick) → Kept a start f → All (λ (k : Ticked). InRange a start (k .flight)) (callsOf a f ts)
 ranges-from a start = all-calls (Kept a start) (λ (k : Ticked). InRange a start (k .flight)) a
-    (λ f t k. let n = tick-keeps a f t (k .0) (k .1) in let u = still-more (k .2) (n .still) in ((n .held, n .running, u), in-range a start (tickOf a f t .flight) (n .running) u))
+    (λ f t k.
+    let o = stays-accepted a f t (k .0) in
+    let n = tick-keeps a f t (k .1) (k .2) in
+    let u = still-more (k .3) (n .still) in
+    ((o, n .held, n .running, u), in-range a start (tickOf a f t .flight) o (n .running) u))
 
 -- the angles, of any run
 angles-from : (a : Airframe) (f : Flight) (ts : List Tick) → All (λ (k : Ticked). Angles (k .report)) (callsOf a f ts)
@@ -114,7 +127,7 @@ pub ranges : (a : Airframe) (s : Flight) (ts : List Tick) → outsideOf s ≡ 0 
 ranges a s ts o g =
     let r = accepted-running s o in
     let still : Still a s s = record { motors = still-same _ _; scale = refl; lift = still-same _ _; unlifted = λ p. refl } in
-    record { at-start = in-range a s s r still; after-each = ranges-from a s s ts (g, r, still); angles = angles-from a s ts }
+    record { at-start = in-range a s s o r still; after-each = ranges-from a s s ts (o, g, r, still); angles = angles-from a s ts }
 
 -- ---- demand 3. `Held s` is what the type of a state tells: the running values of its motors and lift rotors are 32-bit floats
 pub mirrored : (a : Airframe) (s : Flight) (ts : List Tick) → outsideOf s ≡ 0 → Held s → Mirrored a s ts

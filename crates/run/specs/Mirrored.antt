@@ -12,6 +12,7 @@ use lib.Ieee.Scale.{finite}
 use mathlib.Core.Bool.{false, true}
 use mathlib.Core.List.{List, [], _∷_, map}
 use mathlib.Core.Path.{_≡_}
+use Rattle.air.specs.Density.{densityOf, lastRow}
 use Rattle.airframe.specs.Acceptance.{refusedPlace}
 use Rattle.airframe.specs.Reflection.{reflectAirframe}
 use Rattle.airframe.specs.declared.Airframe.{Airframe}
@@ -25,6 +26,7 @@ use Rattle.float.specs.Notation.{minusOne, nought, one}
 use Rattle.float.specs.Same.{Rel}
 use Rattle.mixers.specs.Slots.{at}
 use Rattle.motors.specs.Running.{MotorsInRange}
+use Rattle.wing.specs.Tick.{densityFor}
 use Rattle.wing.specs.declared.Report.{Report}
 use Rattle.wing.specs.declared.Ticked.{Ticked}
 use Rattle.run.specs.Calls.{Each}
@@ -37,7 +39,7 @@ pub data All {X : Type 0} (P : X → Type 0) : List X → Type 0 where
   all-none : All P []
   all-more : {x : X} {xs : List X} → P x → All P xs → All P (x ∷ xs)
 
--- one tick in both runs
+-- one tick in both runs; with the state that it leaves, the air's density at the height where the next tick starts (02, 6)
 pub record Agree (k k' : Ticked) : Type 0 where
   pub answer : numberOf (k' .report .answer) ≡ numberOf (k .report .answer)
   pub place : placeOf (k' .report .answer) ≡ placeOf (k .report .answer)
@@ -45,10 +47,12 @@ pub record Agree (k k' : Ticked) : Type 0 where
   pub thrust : Rel false (k .report .«thrust_n») (k' .report .«thrust_n»)
   pub beta : Rel true (k .report .«beta_rad») (k' .report .«beta_rad»)
   pub state : FlightRel (k .flight) (k' .flight)
+  pub density : densityFor (k' .flight) ≡ densityFor (k .flight)
 
 -- the running values of a state, in a run that began at `start`: a used motor's in 0..1, an unused one's that of `start`, a
 -- surface's in -1..1; the thrust scales, in 0..1 and those of `start` (02, 2); and of the lift rotors the same as of the motors, a
--- rotor being used or not within its own group, and without lift numbers all as at `start` (02, 5)
+-- rotor being used or not within its own group, and without lift numbers all as at `start` (02, 5); and the density of the air at
+-- its height, between those of the table's last row and its first, 0.7361 and 1.3470 (02, 6)
 pub record InRange (a : Airframe) (start f : Flight) : Type 0 where
   pub motors : MotorsInRange (a .motors .used) (start .motors) (f .motors)
   pub surface : (k : ℕ) → k < 8 → Within minusOne one (at (f .servos) k)
@@ -56,14 +60,15 @@ pub record InRange (a : Airframe) (start f : Flight) : Type 0 where
   pub unaltered : f .«thrust_scale» ≡ start .«thrust_scale»
   pub lift : MotorsInRange (a .lift .motors .used) (start .«lift_motors») (f .«lift_motors»)
   pub unlifted : a .«lift_present» ≡ false → f .«lift_motors» ≡ start .«lift_motors»
+  pub density : Within (densityOf lastRow) (densityOf 0) (densityFor f)
 
 -- the angles of a report are numbers, neither a NaN nor infinite (02, 1)
 pub record Angles (r : Report) : Type 0 where
   pub alpha : T (finite (r .«alpha_rad»))
   pub beta : T (finite (r .«beta_rad»))
 
--- one run: before its first tick and after every tick the running values and scales are in range, and every report's angles are
--- numbers
+-- one run: before its first tick and after every tick the running values, the scales and the density are in range, and every
+-- report's angles are numbers
 pub record Ranges (a : Airframe) (s : Flight) (ts : List Tick) : Type 0 where
   pub at-start : InRange a s s
   pub after-each : All (λ (k : Ticked). InRange a s (k .flight)) (callsOf a s ts)

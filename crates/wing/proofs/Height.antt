@@ -1,22 +1,39 @@
--- A tick by the density of its air. One that starts at 0 m, of either sign, is the tick there was when the density was 1.225 everywhere (02, 6); the next one starts where the first has
+-- The density of a tick's air lies between the table's ends: a state that passes 7 has a height. And a tick by its density: one that starts at 0 m, of either sign, is the tick there was when the density was 1.225 everywhere (02, 6); the next one starts where the first has
 -- left the state. Assumes nothing.
-use lib.Dec.{eqb}
-use lib.Ieee.{Float, neg}
+use lib.Dec.{T, eqb}
+use lib.Ieee.{Float, neg, round}
+use lib.Ieee.Scale.{finite}
 use mathlib.Core.Bool.{Bool, cond, false, not, true}
 use mathlib.Core.Path.{_∙_, _≡_, ap, refl}
-use Rattle.air.proofs.Range.{density-at-0}
-use Rattle.air.specs.Density.{densityAt}
+use Rattle.air.proofs.Range.{density-at-0, density-in}
+use Rattle.air.specs.Density.{densityAt, densityOf, lastRow}
 use Rattle.airframe.specs.Acceptance.{refusedPlace}
 use Rattle.airframe.specs.declared.Airframe.{Airframe}
 use Rattle.answers.specs.declared.Answer.the-variants.{NumberOutOfRange}
+use Rattle.flight.proofs.Range.{position-within}
+use Rattle.flight.specs.Envelope.{outsideOf}
 use Rattle.flight.specs.declared.Flight.{Flight}
 use Rattle.flight.specs.declared.Tick.{Tick}
+use Rattle.float.proofs.Interval.{within-finite}
+use Rattle.float.proofs.Order.{finite-number}
+use Rattle.float.proofs.Rounding.{neg-finite}
+use Rattle.float.specs.Interval.{Within}
 use Rattle.float.specs.Notation.{nought, rounded}
 use Rattle.float.specs.Same.{flip}
 use Rattle.wing.specs.Loads.{loadsOf}
 use Rattle.wing.specs.Tick.{acceptedTick, densityFor, liftedOf, movedOf, nextFrom, nextOf, refusedOf, spunOf, steppedOf, tickOf}
 use Rattle.wing.specs.declared.Ticked.{Ticked}
 
+-- ---- of a state inside the envelope
+pub density-for-in : (f : Flight) → outsideOf f ≡ 0 → Within (densityOf lastRow) (densityOf 0) (densityFor f)
+unfolding densityFor
+density-for-in f e =
+    let z = f .body .«position_ned_m» .z in
+    let limit = rounded 1000000 1 in
+    let down : T (finite z) = within-finite (neg limit) limit z (unfold neg round in tt) (unfold round in tt) (position-within f e .z) in
+    density-in (neg z) (finite-number (neg z) (neg-finite z down))
+
+-- ---- by its density
 module _ (a : Airframe) (f : Flight) (t : Tick) where
   -- the next state in air of a density
   abbrev nextIn : Float → Ticked

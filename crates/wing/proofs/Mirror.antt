@@ -109,7 +109,7 @@ loads-mirror density h k l e g w =
     loaded-mirror (g .attitude) (with-lift-mirror h e air (with-thrust-mirror (h .model) pull aero)) aero (pull .thrust)
 
 -- a mirrored pair shares its height, and so its density
-density-for-is : {f f' : Flight} → FlightRel f f' → densityFor f' ≡ densityFor f
+pub density-for-is : {f f' : Flight} → FlightRel f f' → densityFor f' ≡ densityFor f
 unfolding densityFor
 density-for-is k = density-is (r-neg (k .body .position .z))
 
