@@ -1,8 +1,8 @@
 -- The density in a reflected flight: a height and the same height, whatever the sign of a zero, have the same density, as data. Assumes nothing.
 use Prim.Native.Nat.{suc, zero, ℕ}
 use lib.Ieee.{Float, le}
-use mathlib.Core.Bool.{cond, false}
-use mathlib.Core.Path.{_≡_, ap, refl}
+use mathlib.Core.Bool.{false}
+use mathlib.Core.Path.{_≡_, refl}
 use Rattle.float.proofs.Mirror.{exact, r-add, r-cond, r-div, r-le, r-mul, r-same, r-sub}
 use Rattle.float.specs.Notation.{rounded}
 use Rattle.float.specs.Same.{Rel}

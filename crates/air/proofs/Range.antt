@@ -5,22 +5,21 @@ use lib.Dec.{T, T-not, leb, leb→le, nleb→lt}
 use lib.Ieee.{Float, add, binary32, div, fin, fits, inf, isNan, le, lt, mul, nan, neg, ofInt, round, sub}
 use lib.Ieee.Scale.{finite}
 use lib.IntN.{negsuc, ℤ}
-use mathlib.Core.Bool.{Bool, cond, false, not, true}
+use mathlib.Core.Bool.{Bool, false, not, true}
 use mathlib.Core.List.{List, [], _∷_}
 use mathlib.Core.Logic.{_⊎_, inl, inr}
 use mathlib.Core.Path.{_∙_, _≡_, ap, refl, subst, sym}
 use native.Mathlib.Nat.{eq-or-lt-of-le, le-refl}
 use native.Mathlib.Omega.{arith}
 use Rattle.float.proofs.Interval.{div-in, within-finite, within-wider}
-use Rattle.float.proofs.Order.{finite-between, finite-number, le-self, le-trans-float, le→not-lt, lt→le, not-le→lt}
+use Rattle.float.proofs.Order.{finite-between, le-self, le-trans-float, le→not-lt, lt→le}
 use Rattle.float.proofs.Rounding.{add-mono-r, divide-mono, mul-anti-r, sub-mono}
 use Rattle.float.proofs.Tests.{All, all→, allb, everyBelow, everyBelow→}
-use Rattle.float.specs.Interval.{Within}
 use Rattle.float.proofs.Zeros.{nonzero, zero-is-zero, zero-not-below}
-use Rattle.float.specs.Same.{flip}
+use Rattle.float.specs.Interval.{Within}
 use Rattle.float.specs.Notation.{_⊖_, _⊗_, _⊘_, nought, one, rounded}
+use Rattle.float.specs.Same.{flip}
 use Rattle.air.proofs.Rows.{between-ends, densities-fall, height-finite, heights-climb, over-row, rise, row-inside, step, under-next}
-use Rattle.air.specs.Contracts.{Inside}
 use Rattle.air.specs.Density.{between, densities, densityAt, densityOf, heightOf, lastRow, rowCount, rowFrom, tenThousandths}
 
 -- ---- within one step the density falls

@@ -5,17 +5,16 @@ use lib.Dec.{T, T-not, leb→le}
 use lib.Ieee.{Float, add, binary32, div, fin, fits, isNan, le, lt, mul, ofInt, round, sub, toSigned}
 use lib.Ieee.Scale.{finite}
 use lib.IntN.{negsuc, pos, ℤ}
-use lib.ListN.{getD}
 use lib.Signed.{leZ}
 use mathlib.Core.Bool.{Bool, cond, false, not, true}
 use mathlib.Core.List.{List, [], _∷_}
-use mathlib.Core.Logic.{_⊎_, inl, inr}
+use mathlib.Core.Logic.{inl, inr}
 use mathlib.Core.Path.{_∙_, _≡_, ap, refl, subst, sym}
 use native.Mathlib.Nat.{eq-or-lt-of-le, le-refl}
 use native.Mathlib.Omega.{arith}
 use Rattle.float.proofs.Interval.{div-in, plus-in, within-finite}
 use Rattle.float.proofs.Lists.{same-at}
-use Rattle.float.proofs.Order.{finite-between, finite-number, le-lt, le-self, le-trans-float, le→not-lt, lt-le, lt→le, not-le→lt}
+use Rattle.float.proofs.Order.{finite-number, le-lt, le-self, le-trans-float, le→not-lt, lt-le, lt→le, not-le→lt}
 use Rattle.float.proofs.Rounding.{add-mono-l, divide-mono}
 use Rattle.float.proofs.Tests.{All, all→, allb, by-cases, everyBelow, everyBelow→}
 use Rattle.float.proofs.Truncation.{toSigned-mono}

@@ -1,4 +1,5 @@
--- What the code's promises name besides the definitions.
+-- What the code's promises name besides the definitions. Nothing here needs believing: `proofs/Rows` shows that the tests before the
+-- search for a row leave it (`between-ends`).
 use lib.Dec.{T}
 use lib.Ieee.{Float, lt}
 use Rattle.air.specs.Density.{heightOf, lastRow}

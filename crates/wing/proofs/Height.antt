@@ -3,8 +3,8 @@
 use lib.Dec.{T, eqb}
 use lib.Ieee.{Float, neg, round}
 use lib.Ieee.Scale.{finite}
-use mathlib.Core.Bool.{Bool, cond, false, not, true}
-use mathlib.Core.Path.{_∙_, _≡_, ap, refl}
+use mathlib.Core.Bool.{Bool, cond, false, true}
+use mathlib.Core.Path.{_∙_, _≡_, ap}
 use Rattle.air.proofs.Range.{density-at-0, density-in}
 use Rattle.air.specs.Density.{densityAt, densityOf, lastRow}
 use Rattle.airframe.specs.Acceptance.{refusedPlace}

@@ -1,7 +1,7 @@
 -- `air::row_below` meets its contract: the guess is the height's row or the next, and the test tells which. Assumes nothing.
 use Prim.Native.Nat.{_<_, _-_, _≤_, suc, ℕ}
 use lib.Dec.{T}
-use lib.Ieee.{Float, fin, lt, ofBits, round, toSigned}
+use lib.Ieee.{Float, lt, ofBits, round}
 use lib.IntN.{natAbs, pos, ℤ}
 use lib.Signed.{nonNeg}
 use mathlib.Core.Bool.{false, true}
