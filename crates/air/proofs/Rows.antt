@@ -32,6 +32,14 @@ heights = refl
 pub height-made : (i : ℕ) → i < rowCount → ofInt binary32 (pos (i * 100)) ⊖ rounded 1000 1 ≡ heightOf i
 height-made i l = same-at nought (λ (i : ℕ). ofInt binary32 (pos (i * 100)) ⊖ rounded 1000 1) heightOf rowCount heights i l
 
+-- and a row lower
+lower : listOf (λ (i : ℕ). heightOf (suc i) ⊖ rounded 100 1) lastRow ≡ listOf heightOf lastRow
+unfolding listOf listFrom heightOf ofInt sub round
+lower = refl
+
+pub row-lower : (i : ℕ) → i < lastRow → heightOf (suc i) ⊖ rounded 100 1 ≡ heightOf i
+row-lower i l = same-at nought (λ (i : ℕ). heightOf (suc i) ⊖ rounded 100 1) heightOf lastRow lower i l
+
 pub height-finite : (i : ℕ) → i < rowCount → T (finite (heightOf i))
 height-finite i l = everyBelow→ (λ (i : ℕ). finite (heightOf i)) rowCount (unfold everyBelow heightOf ofInt round in tt) i l
 

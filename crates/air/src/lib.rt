@@ -94,7 +94,7 @@ pub fn density_with(height_m: f32, densities: &[f32; ROW_COUNT]) -> f32
     if height_m != height_m {
         return height_m;
     }
-    between(row_below(height_m), height_m, densities)
+    within_table(height_m, densities)
 }
 
 // The same with a table of its own.
@@ -113,25 +113,26 @@ fn row_height(row: u32) -> f32
     (row * 100) as f32 - 1000.0
 }
 
-// The highest row that is not above a height within the table. The sum and the quotient are rounded, so that the first guess may be
-// one row too high.
-fn row_below(height_m: f32) -> u32
-    requires { ⌜ Contracts.Inside «height_m» ⌝ }
-    ensures { λ r. ⌜ r ≡ Density.rowFrom Density.lastRow «height_m» ⌝ }
+// The density at a height between the table's ends, by the highest row that is not above it. The sum and the quotient are rounded, so
+// that the first guess may be one row too high.
+fn within_table(height_m: f32, densities: &[f32; ROW_COUNT]) -> f32
+    requires { ⌜ Contracts.Inside «height_m» ⌝ ∗ ⌜ now densities ≡ Density.densities ⌝ }
+    ensures { λ r. ⌜ r ≡ Density.between (Density.rowFrom Density.lastRow «height_m») «height_m» ⌝ }
 {
     let guess = float::truncated((height_m + 1000.0) / 100.0) as u32;
-    if height_m < row_height(guess) {
-        return guess - 1;
+    let row_m = row_height(guess);
+    if height_m < row_m {
+        return between(guess - 1, row_m - 100.0, height_m, densities);
     }
-    guess
+    between(guess, row_m, height_m, densities)
 }
 
-// Between a row and the next.
-fn between(row: u32, height_m: f32, densities: &[f32; ROW_COUNT]) -> f32
-    requires { ⌜ row < Density.lastRow ⌝ ∗ ⌜ now densities ≡ Density.densities ⌝ }
+// Between a row, which is at `row_m`, and the next.
+fn between(row: u32, row_m: f32, height_m: f32, densities: &[f32; ROW_COUNT]) -> f32
+    requires { ⌜ row < Density.lastRow ⌝ ∗ ⌜ «row_m» ≡ Density.heightOf row ⌝ ∗ ⌜ now densities ≡ Density.densities ⌝ }
     ensures { λ r. ⌜ r ≡ Density.between row «height_m» ⌝ }
 {
     let at = row as usize;
     let below = densities[at];
-    below + (densities[at + 1] - below) * ((height_m - row_height(row)) / 100.0)
+    below + (densities[at + 1] - below) * ((height_m - row_m) / 100.0)
 }

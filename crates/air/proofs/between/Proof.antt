@@ -23,17 +23,14 @@ mul-result c = search needs
 element-copy-out-result : tie.Need-element-copy-out-result
 element-copy-out-result c = search needs
 
-row-height-requires : tie.Need-row-height-requires
-row-height-requires c κs = search needs
-
 plus-one : (n : ℕ) → n + 1 ≡ suc n
 plus-one n = omega arith
 
 returns : tie.Need-returns
 unfolding between densityOf ofBits round
 returns c =
-    let b = c .before .before .before in
-    rw (c .row-height .ensures, b .pre .1, plus-one (b .args .row))
+    let b = c .before .before in
+    rw (b .pre .1 .0, b .pre .1 .1, plus-one (b .args .row))
 
 pub between-spec : {M : Type 1} → statement M
 between-spec =
@@ -44,5 +41,4 @@ between-spec =
     add-result
     mul-result
     element-copy-out-result
-    row-height-requires
     returns)

@@ -7,7 +7,7 @@ use mathlib.Core.Path.{_∙_, _≡_, ap, subst, sym}
 use borrow.Author.Needs.{needs}
 use Rattle.float.proofs.Order.{same-number}
 use Rattle.air.proofs.Range.{density-nan}
-use Rattle.air.proofs.Rows.{between-ends, row-inside}
+use Rattle.air.proofs.Rows.{between-ends}
 use Rattle.air.specs.Contracts.{Inside}
 use Rattle.air.specs.Density.{densityAt, densityOf, heightOf, lastRow}
 use Rattle.air.proofs.density_with.Statement.{statement}
@@ -42,22 +42,17 @@ past-tests : (c : tie.Else3) → Inside (c .before .before .before .args .height
 unfolding heightOf ofInt ofBits neg round
 past-tests c = between-ends (c .before .before .before .args .height-m) (same-number (c .before .before .before .args .height-m) (subst (λ (t : Bool). T (not t)) (sym (c .if3 .left)) tt)) (c .before .before .if1 .left) (c .before .if2 .left)
 
-row-below-requires : tie.Need-row-below-requires
-row-below-requires c κs = past-tests c
-
-between-requires : tie.Need-between-requires
-between-requires c κs =
-    let s = c .before .before .before .before in
-    (rw (c .row-below .ensures) (row-inside (s .args .height-m) (past-tests (c .before))), s .pre)
+within-table-requires : tie.Need-within-table-requires
+within-table-requires c κs = (past-tests c, c .before .before .before .pre)
 
 returns-4 : tie.Need-returns-4
 unfolding densityAt heightOf ofInt ofBits neg round
 returns-4 c =
-    let e = c .before .before in
+    let e = c .before in
     let h = e .before .before .before .args .height-m in
     let not-low : le h (heightOf 0) ≡ false = e .before .before .if1 .left in
     let not-high : le (heightOf lastRow) h ≡ false = e .before .if2 .left in
-    rw (not-low, not-high, c .between .ensures, c .before .row-below .ensures)
+    rw (not-low, not-high, c .within-table .ensures)
 
 pub density-with-spec : {M : Type 1} → statement M
 density-with-spec =
@@ -68,6 +63,5 @@ density-with-spec =
     element-copy-out-result-2
     returns-2
     returns-3
-    row-below-requires
-    between-requires
+    within-table-requires
     returns-4)
