@@ -287,12 +287,12 @@ uint64_t bench_write_tick(const float *tick, size_t tick_len, uint8_t *block, si
  * and thrust in the report's array of 3. Each motor's thrust is multiplied by its scale, and no tick changes a scale. With lift
  * numbers the lift rotors push along body -z, by their running values alone: airspeed takes nothing of it, and no scale does. Air
  * along their discs drags them, by place 57 times their thrust times its speed ahead and its speed to the side. A motor of either
- * group that no row names keeps its running value, and works by it. The air has the density of the height where the tick starts, as
- * bench_density gives it. Refused, the first that holds: an array of another length (1),
- * which leaves state and report as found; a refused block, with bench_read_airframe's reply; the state outside the envelope (7);
- * the step not in 1/1024..0.02 s (8); a component of the wind that is a NaN or beyond 200 m/s either way (10); a departure (9). But
- * for an array's length, a refusal leaves the state as found and reports zeros. Commands may be any floats: one that is NaN counts
- * as 0, others are held to their range. */
+ * group that no row names keeps its running value, and works by it. The air has the density of the height where the tick starts,
+ * as bench_density gives it. Refused, the first that holds: an array of another length (1), which leaves state and report as
+ * found; a refused block, with bench_read_airframe's reply; the state outside the envelope (7); the step not in 1/1024..0.02 s
+ * (8); a component of the wind that is a NaN or beyond 200 m/s either way (10); a departure (9). But for an array's length, a
+ * refusal leaves the state as found and reports zeros. Commands may be any floats: one that is NaN counts as 0, others are held to
+ * their range. */
 uint64_t bench_tick(const uint8_t *airframe_block, size_t airframe_block_len, float *state, size_t state_len, const float *tick,
                     size_t tick_len, float *report, size_t report_len);
 
