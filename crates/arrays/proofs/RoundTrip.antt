@@ -30,7 +30,19 @@ slots-again d xs e = map-slots d (λ x. x) xs e ∙ map-id xs
 pub flight-again : (f : Flight) → length (f .motors) ≡ 8 → length (f .servos) ≡ 8 → length (f .«thrust_scale») ≡ 8 → length (f .«lift_motors») ≡ 8 → flightIn (flightNumbers f) ≡ f
 unfolding flightIn flightNumbers vecIn quatIn slotsIn
 flight-again f m s c l = λ i. record {
-  body = f .body;
+  «north_m» = f .«north_m»;
+  «east_m» = f .«east_m»;
+  «down_m» = f .«down_m»;
+  «north_mps» = f .«north_mps»;
+  «east_mps» = f .«east_mps»;
+  «down_mps» = f .«down_mps»;
+  w = f .w;
+  i = f .i;
+  j = f .j;
+  k = f .k;
+  «p_radps» = f .«p_radps»;
+  «q_radps» = f .«q_radps»;
+  «r_radps» = f .«r_radps»;
   motors = slots-again nan (f .motors) m i;
   servos = slots-again nan (f .servos) s i;
   «thrust_scale» = slots-again nan (f .«thrust_scale») c i;

@@ -4,6 +4,7 @@ use Prim.Native.Nat.{_+_, _/_, ℕ}
 use lib.Ieee.{Float}
 use mathlib.Core.List.{List, [], _∷_}
 use Rattle.body.specs.declared.Body.{Body}
+use Rattle.flight.specs.State.{bodyOf, flightOf}
 use Rattle.flight.specs.declared.Flight.{Flight}
 use Rattle.flight.specs.declared.Tick.{Tick}
 use Rattle.mixers.specs.Slots.{at, slots}
@@ -32,18 +33,14 @@ slotsIn xs i = slots (λ (k : ℕ). at xs (i + k))
 
 -- the state of an array
 unfoldable pub flightIn : List Float → Flight
-flightIn xs = record {
-  body = record {
-    «position_ned_m» = vecIn xs 0;
-    «velocity_ned_mps» = vecIn xs (velocityAt / numberBytes);
-    attitude = quatIn xs (attitudeAt / numberBytes);
-    «angular_velocity_radps» = vecIn xs (ratesAt / numberBytes);
-  };
-  motors = slotsIn xs (motorsAt / numberBytes);
-  servos = slotsIn xs (servosAt / numberBytes);
-  «thrust_scale» = slotsIn xs (scalesAt / numberBytes);
-  «lift_motors» = slotsIn xs (liftAt / numberBytes);
-}
+flightIn xs =
+    let body : Body = record {
+      «position_ned_m» = vecIn xs 0;
+      «velocity_ned_mps» = vecIn xs (velocityAt / numberBytes);
+      attitude = quatIn xs (attitudeAt / numberBytes);
+      «angular_velocity_radps» = vecIn xs (ratesAt / numberBytes);
+    } in
+    flightOf body (slotsIn xs (motorsAt / numberBytes)) (slotsIn xs (servosAt / numberBytes)) (slotsIn xs (scalesAt / numberBytes)) (slotsIn xs (liftAt / numberBytes))
 
 -- the tick of an array
 unfoldable pub tickIn : List Float → Tick
@@ -71,7 +68,7 @@ bodyThen b more =
 
 unfoldable pub flightNumbers : Flight → List Float
 flightNumbers f =
-    bodyThen (f .body)
+    bodyThen (bodyOf f)
     (slotsThen (f .motors) (slotsThen (f .servos) (slotsThen (f .«thrust_scale») (slotsThen (f .«lift_motors») []))))
 
 -- the array of a tick: step, wind, motor commands, servo commands

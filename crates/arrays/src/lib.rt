@@ -134,13 +134,7 @@ pub fn flight_in(xs: &[f32]) -> Flight
         attitude,
         angular_velocity_radps,
     };
-    Flight {
-        body,
-        motors,
-        servos,
-        thrust_scale,
-        lift_motors,
-    }
+    Flight::of(body, motors, servos, thrust_scale, lift_motors)
 }
 
 // The tick of an array.
@@ -163,29 +157,24 @@ pub fn tick_in(xs: &[f32]) -> Tick
 pub fn flight_numbers(f: Flight) -> [f32; STATE_NUMBERS]
     ensures { λ r. ⌜ r ≡ FlightArray.flightNumbers f ⌝ }
 {
-    let b = f.body;
-    let p = b.position_ned_m;
-    let v = b.velocity_ned_mps;
-    let a = b.attitude;
-    let o = b.angular_velocity_radps;
     let m = f.motors;
     let s = f.servos;
     let c = f.thrust_scale;
     let l = f.lift_motors;
     [
-        p.x,
-        p.y,
-        p.z,
-        v.x,
-        v.y,
-        v.z,
-        a.w,
-        a.i,
-        a.j,
-        a.k,
-        o.x,
-        o.y,
-        o.z,
+        f.north_m,
+        f.east_m,
+        f.down_m,
+        f.north_mps,
+        f.east_mps,
+        f.down_mps,
+        f.w,
+        f.i,
+        f.j,
+        f.k,
+        f.p_radps,
+        f.q_radps,
+        f.r_radps,
         m[0],
         m[1],
         m[2],

@@ -17,6 +17,7 @@ use Rattle.vector.specs.Vector.{vecInside}
 use Rattle.vector.specs.declared.Quaternion.{Quaternion}
 use Rattle.vector.specs.declared.Vec3.{Vec3}
 use Rattle.flight.specs.Envelope.{attitudeOutside, isInside, outsideOf, slotInside, slotsOutside, vecOutside}
+use Rattle.flight.specs.State.{bodyOf}
 use Rattle.flight.specs.declared.Flight.{Flight}
 
 -- one row of tests and another
@@ -79,10 +80,10 @@ and a b = cond b a false
 
 pub inside-all : (f : Flight)
     → isInside f
-    ≡ and (vecInside (rounded 1000000 1) (f .body .«position_ned_m»))
-    (and (vecInside (rounded 1000 1) (f .body .«velocity_ned_mps»))
-    (and (inside (rounded 9 10) (rounded 11 10) (quatNorm (f .body .attitude)))
-    (and (vecInside (rounded 100 1) (f .body .«angular_velocity_radps»))
+    ≡ and (vecInside (rounded 1000000 1) (bodyOf f .«position_ned_m»))
+    (and (vecInside (rounded 1000 1) (bodyOf f .«velocity_ned_mps»))
+    (and (inside (rounded 9 10) (rounded 11 10) (quatNorm (bodyOf f .attitude)))
+    (and (vecInside (rounded 100 1) (bodyOf f .«angular_velocity_radps»))
     (and (allPass (slotInside nought one (f .motors)) 8)
     (and (allPass (slotInside minusOne one (f .servos)) 8)
     (and (allPass (slotInside nought one (f .«thrust_scale»)) 8) (allPass (slotInside nought one (f .«lift_motors»)) 8)))))))

@@ -11,6 +11,7 @@ use Rattle.vector.specs.declared.Quaternion.{Quaternion}
 use Rattle.vector.specs.declared.Vec3.{Vec3}
 use Rattle.flight.specs.Envelope.{attitudeOutside, outsideOf, vecOutside}
 use Rattle.flight.specs.Reflection.{FlightRel, TickRel, reflectFlight, reflectTick}
+use Rattle.flight.specs.State.{bodyOf}
 use Rattle.flight.specs.declared.Flight.{Flight}
 use Rattle.flight.specs.declared.Tick.{Tick}
 
@@ -29,7 +30,7 @@ outside-is h = rw (vec-outside-is (rounded 1000000 1) (h .body .position), vec-o
 -- the reflection by flipping sign bits is one
 pub reflect-flight : (f : Flight) → FlightRel f (reflectFlight f)
 unfolding reflectFlight
-reflect-flight f = record { body = reflect-body (f .body); motors = refl; servos = refl; scale = refl; lift = refl }
+reflect-flight f = record { body = reflect-body (bodyOf f); motors = refl; servos = refl; scale = refl; lift = refl }
 
 pub reflect-tick : (t : Tick) → TickRel t (reflectTick t)
 unfolding reflectTick

@@ -15,21 +15,17 @@ use Rattle.vector.specs.Rotation.{quat, quatNorm}
 use Rattle.vector.specs.Vector.{zeroVec}
 use Rattle.vector.specs.declared.Quaternion.{Quaternion}
 use Rattle.vector.specs.declared.Vec3.{Vec3}
+use Rattle.flight.specs.State.{bodyOf, flightOf}
 use Rattle.flight.specs.declared.Flight.{Flight}
 
 abbrev pub zeroFlight : Flight
-zeroFlight = record {
-  body = record {
-    «position_ned_m» = zeroVec;
-    «velocity_ned_mps» = zeroVec;
-    attitude = quat nought nought nought nought;
-    «angular_velocity_radps» = zeroVec;
-  };
-  motors = replicate 8 nought;
-  servos = replicate 8 nought;
-  «thrust_scale» = replicate 8 nought;
-  «lift_motors» = replicate 8 nought;
-}
+zeroFlight =
+    flightOf
+    (record { «position_ned_m» = zeroVec; «velocity_ned_mps» = zeroVec; attitude = quat nought nought nought nought; «angular_velocity_radps» = zeroVec })
+    (replicate 8 nought)
+    (replicate 8 nought)
+    (replicate 8 nought)
+    (replicate 8 nought)
 
 -- a vector's components, each within ±limit
 unfoldable pub vecOutside : Float → Vec3 → ℕ
@@ -53,10 +49,10 @@ attitudeOutside q = cond (inside (rounded 9 10) (rounded 11 10) (quatNorm q)) 0 
 unfoldable pub outsideOf : Flight → ℕ
 outsideOf f =
     firstOf
-    (vecOutside (rounded 1000000 1) (f .body .«position_ned_m»)
-    ∷ after 3 (vecOutside (rounded 1000 1) (f .body .«velocity_ned_mps»))
-    ∷ after 6 (attitudeOutside (f .body .attitude))
-    ∷ after 7 (vecOutside (rounded 100 1) (f .body .«angular_velocity_radps»))
+    (vecOutside (rounded 1000000 1) (bodyOf f .«position_ned_m»)
+    ∷ after 3 (vecOutside (rounded 1000 1) (bodyOf f .«velocity_ned_mps»))
+    ∷ after 6 (attitudeOutside (bodyOf f .attitude))
+    ∷ after 7 (vecOutside (rounded 100 1) (bodyOf f .«angular_velocity_radps»))
     ∷ after 10 (slotsOutside nought one (f .motors))
     ∷ after 18 (slotsOutside minusOne one (f .servos))
     ∷ after 26 (slotsOutside nought one (f .«thrust_scale»))

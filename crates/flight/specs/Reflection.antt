@@ -5,17 +5,12 @@ use mathlib.Core.Bool.{false}
 use mathlib.Core.Path.{_≡_}
 use Rattle.body.specs.Reflection.{BodyRel, reflectBody}
 use Rattle.vector.specs.Reflection.{VecRel, reflectVec}
+use Rattle.flight.specs.State.{bodyOf, flightOf}
 use Rattle.flight.specs.declared.Flight.{Flight}
 use Rattle.flight.specs.declared.Tick.{Tick}
 
 unfoldable pub reflectFlight : Flight → Flight
-reflectFlight f = record {
-  body = reflectBody (f .body);
-  motors = f .motors;
-  servos = f .servos;
-  «thrust_scale» = f .«thrust_scale»;
-  «lift_motors» = f .«lift_motors»;
-}
+reflectFlight f = flightOf (reflectBody (bodyOf f)) (f .motors) (f .servos) (f .«thrust_scale») (f .«lift_motors»)
 
 unfoldable pub reflectTick : Tick → Tick
 reflectTick t = record {
@@ -27,7 +22,7 @@ reflectTick t = record {
 
 -- the same, compared as numbers; the running values and the thrust scales are even the same data
 pub record FlightRel (f f' : Flight) : Type 0 where
-  pub body : BodyRel (f .body) (f' .body)
+  pub body : BodyRel (bodyOf f) (bodyOf f')
   pub motors : f' .motors ≡ f .motors
   pub servos : f' .servos ≡ f .servos
   pub scale : f' .«thrust_scale» ≡ f .«thrust_scale»

@@ -4,13 +4,30 @@ ghost use Prim.Native.Nat.{_≤_};
 ghost use Rattle.ordered.specs.Contracts.{allPass};
 ghost use Rattle.flight.specs.Envelope as Envelope;
 ghost use Rattle.flight.specs.Reflection as Reflection;
+ghost use Rattle.flight.specs.State as State;
 use body::Body;
 use vector::Quaternion;
 use vector::Vec3;
 
-// The body on NED world axes and FRD body axes, the commands that motors and servos run at, and how strong each motor is.
+// The body's 13 numbers on NED world axes and FRD body axes, the commands that motors and servos run at, and how strong each motor is.
 pub struct Flight {
-    pub body: Body,
+    // Position.
+    pub north_m: f32,
+    pub east_m: f32,
+    pub down_m: f32,
+    // Velocity over the ground.
+    pub north_mps: f32,
+    pub east_mps: f32,
+    pub down_mps: f32,
+    // The attitude, which rotates from body axes to NED axes.
+    pub w: f32,
+    pub i: f32,
+    pub j: f32,
+    pub k: f32,
+    // The rates about body x, y and z.
+    pub p_radps: f32,
+    pub q_radps: f32,
+    pub r_radps: f32,
     pub motors: [f32; 8],
     pub servos: [f32; 8],
     // By motor slot: 1 as built, 0 gives no thrust (02, 2). No tick changes them.
@@ -32,25 +49,24 @@ impl Flight {
     pub fn zero() -> Self
         ensures { λ r. ⌜ r ≡ Envelope.zeroFlight ⌝ }
     {
-        let zero = Vec3::zeros();
-        let attitude = Quaternion {
-            w: 0.0,
-            i: 0.0,
-            j: 0.0,
-            k: 0.0,
-        };
         let motors = [0.0; 8];
         let servos = [0.0; 8];
         let thrust_scale = [0.0; 8];
         let lift_motors = [0.0; 8];
-        let body = Body {
-            position_ned_m: zero,
-            velocity_ned_mps: zero,
-            attitude,
-            angular_velocity_radps: zero,
-        };
         Flight {
-            body,
+            north_m: 0.0,
+            east_m: 0.0,
+            down_m: 0.0,
+            north_mps: 0.0,
+            east_mps: 0.0,
+            down_mps: 0.0,
+            w: 0.0,
+            i: 0.0,
+            j: 0.0,
+            k: 0.0,
+            p_radps: 0.0,
+            q_radps: 0.0,
+            r_radps: 0.0,
             motors,
             servos,
             thrust_scale,
@@ -58,11 +74,79 @@ impl Flight {
         }
     }
 
+    // The state of a body, the values that motors, servos and lift rotors run at, and how strong each motor is.
+    pub fn of(
+        body: Body,
+        motors: [f32; 8],
+        servos: [f32; 8],
+        thrust_scale: [f32; 8],
+        lift_motors: [f32; 8],
+    ) -> Self
+        ensures { λ r. ⌜ r ≡ State.flightOf body motors servos «thrust_scale» «lift_motors» ⌝ }
+    {
+        let position = body.position_ned_m;
+        let velocity = body.velocity_ned_mps;
+        let attitude = body.attitude;
+        let rates = body.angular_velocity_radps;
+        Flight {
+            north_m: position.x,
+            east_m: position.y,
+            down_m: position.z,
+            north_mps: velocity.x,
+            east_mps: velocity.y,
+            down_mps: velocity.z,
+            w: attitude.w,
+            i: attitude.i,
+            j: attitude.j,
+            k: attitude.k,
+            p_radps: rates.x,
+            q_radps: rates.y,
+            r_radps: rates.z,
+            motors,
+            servos,
+            thrust_scale,
+            lift_motors,
+        }
+    }
+
+    // The body of the state.
+    pub fn body(self) -> Body
+        ensures { λ r. ⌜ r ≡ State.bodyOf self ⌝ }
+    {
+        let position_ned_m = Vec3 {
+            x: self.north_m,
+            y: self.east_m,
+            z: self.down_m,
+        };
+        let velocity_ned_mps = Vec3 {
+            x: self.north_mps,
+            y: self.east_mps,
+            z: self.down_mps,
+        };
+        let attitude = Quaternion {
+            w: self.w,
+            i: self.i,
+            j: self.j,
+            k: self.k,
+        };
+        let angular_velocity_radps = Vec3 {
+            x: self.p_radps,
+            y: self.q_radps,
+            z: self.r_radps,
+        };
+        Body {
+            position_ned_m,
+            velocity_ned_mps,
+            attitude,
+            angular_velocity_radps,
+        }
+    }
+
     // The first test of the envelope that fails, by its number (01, "Envelope"); 0 where the state is inside.
     pub fn outside(self) -> u32
         ensures { λ r. ⌜ r ≡ Envelope.outsideOf self ⌝ }
     {
-        let body = self.body;
+        let body = self.body();
         let running = self.motors;
         let positions = self.servos;
         let thrust_scale = self.thrust_scale;
@@ -155,7 +239,7 @@ impl Flight {
     pub fn is_inside(self) -> bool
         ensures { λ r. ⌜ r ≡ Envelope.isInside self ⌝ }
     {
-        let body = self.body;
+        let body = self.body();
         let running = self.motors;
         let positions = self.servos;
         let thrust_scale = self.thrust_scale;
@@ -189,18 +273,12 @@ impl Flight {
     pub fn reflected(self) -> Self
         ensures { λ r. ⌜ r ≡ Reflection.reflectFlight self ⌝ }
     {
-        let body = self.body;
+        let body = self.body();
         let motors = self.motors;
         let servos = self.servos;
         let thrust_scale = self.thrust_scale;
         let lift_motors = self.lift_motors;
-        Flight {
-            body: body.reflected(),
-            motors,
-            servos,
-            thrust_scale,
-            lift_motors,
-        }
+        Flight::of(body.reflected(), motors, servos, thrust_scale, lift_motors)
     }
 }
 

@@ -9,6 +9,7 @@ use Rattle.answers.specs.Answers.{numberOf, placeOf}
 use Rattle.answers.specs.declared.Answer.{Answer}
 use Rattle.answers.specs.declared.Answer.the-variants.{WrongLength}
 use Rattle.body.specs.declared.Body.{Body}
+use Rattle.flight.specs.State.{bodyOf}
 use Rattle.flight.specs.declared.Flight.{Flight}
 use Rattle.float.specs.Same.{num}
 use Rattle.lines.specs.Glyph.{glyphOf}
@@ -70,7 +71,7 @@ bodyText b =
 
 -- what follows the index of a tick's line
 unfoldable pub restText : Answer → Flight → List ℕ
-restText answer f = byteText space ++ decimalText (numberOf answer) ++ bodyText (f .body) ++ byteText newline
+restText answer f = byteText space ++ decimalText (numberOf answer) ++ bodyText (bodyOf f) ++ byteText newline
 
 -- the line of a tick: its index, its answer, and the state handed back
 unfoldable pub lineText : ℕ → Answer → Flight → List ℕ

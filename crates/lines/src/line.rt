@@ -52,7 +52,7 @@ fn put_rest(out: &mut [u8; 65536], at: usize, answer: Answer, f: Flight) -> usiz
 {
     let number = text::put_byte(out, at, b' ');
     let body = digits::put_decimal(out, number, digits::wide(answer.number()));
-    let end = put_body(out, body, f.body);
+    let end = put_body(out, body, f.body());
     text::put_byte(out, end, b'\n')
 }
 

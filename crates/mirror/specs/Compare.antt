@@ -8,6 +8,7 @@ use mathlib.Core.List.{List}
 use Rattle.answers.specs.Answers.{numberOf}
 use Rattle.body.specs.declared.Body.{Body}
 use Rattle.flight.specs.Reflection.{reflectFlight}
+use Rattle.flight.specs.State.{bodyOf}
 use Rattle.flight.specs.declared.Flight.{Flight}
 use Rattle.ordered.specs.Contracts.{allPass}
 use Rattle.mixers.specs.Slots.{at}
@@ -40,7 +41,7 @@ sameBody b c =
 
 unfoldable pub sameFlight : Flight → Flight → Bool
 sameFlight f g =
-    both (sameBody (f .body) (g .body))
+    both (sameBody (bodyOf f) (bodyOf g))
     (both (both (allPass (sameSlot (f .motors) (g .motors)) 8) (allPass (sameSlot (f .servos) (g .servos)) 8))
     (both (allPass (sameSlot (f .«thrust_scale») (g .«thrust_scale»)) 8) (allPass (sameSlot (f .«lift_motors») (g .«lift_motors»)) 8)))
 

@@ -78,7 +78,7 @@ fn same_flight(f: Flight, g: Flight) -> bool
     let scales = same_slots(strengths, strengths_too);
     let lift = same_slots(lifting, lifting_too);
     ordered::both(
-        same_body(f.body, g.body),
+        same_body(f.body(), g.body()),
         ordered::both(ordered::both(motors, servos), ordered::both(scales, lift)),
     )
 }

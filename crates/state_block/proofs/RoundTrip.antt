@@ -13,6 +13,7 @@ use native.Mathlib.Nat.{add-zero, eq-or-lt-of-le}
 use native.Mathlib.Omega.{arith}
 use Rattle.answers.specs.declared.Answer.the-variants.{Done}
 use Rattle.flight.specs.Envelope.{outsideOf}
+use Rattle.flight.specs.State.{bodyOf}
 use Rattle.flight.specs.declared.Flight.{Flight}
 use Rattle.flight.specs.declared.Tick.{Tick}
 use Rattle.float.specs.Bytes.{byteAt, put, word}
@@ -221,10 +222,10 @@ slots-kept s t n j h l = simp (h (j + 0) (omega arith), h (j + 4) (omega arith),
 -- a state of numbers that 32 bits hold, NaNs and infinities too, with 8 motors, 8 servos, 8 thrust scales and 8 lift rotors: what every
 -- `Flight` of the code is
 pub record FlightFits (f : Flight) : Type 0 where
-  pub position-fits : VecFits (f .body .«position_ned_m»)
-  pub velocity-fits : VecFits (f .body .«velocity_ned_mps»)
-  pub attitude-fits : AttitudeFits (f .body .attitude)
-  pub rates-fit : VecFits (f .body .«angular_velocity_radps»)
+  pub position-fits : VecFits (bodyOf f .«position_ned_m»)
+  pub velocity-fits : VecFits (bodyOf f .«velocity_ned_mps»)
+  pub attitude-fits : AttitudeFits (bodyOf f .attitude)
+  pub rates-fit : VecFits (bodyOf f .«angular_velocity_radps»)
   pub motors-fit : SlotsFit (f .motors)
   pub servos-fit : SlotsFit (f .servos)
   pub scales-fit : SlotsFit (f .«thrust_scale»)
@@ -232,16 +233,16 @@ pub record FlightFits (f : Flight) : Type 0 where
 
 module _ (s : List ℕ) (i : ℕ) (f : Flight) (l : i + 180 ≤ length s) (h : FlightFits f) where
   abbrev s1 : List ℕ
-  s1 = putVec s i (f .body .«position_ned_m»)
+  s1 = putVec s i (bodyOf f .«position_ned_m»)
 
   abbrev s2 : List ℕ
-  s2 = putVec s1 (i + 12) (f .body .«velocity_ned_mps»)
+  s2 = putVec s1 (i + 12) (bodyOf f .«velocity_ned_mps»)
 
   abbrev s3 : List ℕ
-  s3 = putAttitude s2 (i + 24) (f .body .attitude)
+  s3 = putAttitude s2 (i + 24) (bodyOf f .attitude)
 
   abbrev s4 : List ℕ
-  s4 = putVec s3 (i + 40) (f .body .«angular_velocity_radps»)
+  s4 = putVec s3 (i + 40) (bodyOf f .«angular_velocity_radps»)
 
   abbrev s5 : List ℕ
   s5 = putFloats s4 (i + 52) (f .motors) 8
@@ -256,16 +257,16 @@ module _ (s : List ℕ) (i : ℕ) (f : Flight) (l : i + 180 ≤ length s) (h : F
   s8 = putFloats s7 (i + 148) (f .«lift_motors») 8
 
   l1 : length s1 ≡ length s
-  l1 = length-putVec s i (f .body .«position_ned_m»)
+  l1 = length-putVec s i (bodyOf f .«position_ned_m»)
 
   l2 : length s2 ≡ length s
-  l2 = length-putVec s1 (i + 12) (f .body .«velocity_ned_mps») ∙ l1
+  l2 = length-putVec s1 (i + 12) (bodyOf f .«velocity_ned_mps») ∙ l1
 
   l3 : length s3 ≡ length s
-  l3 = length-putAttitude s2 (i + 24) (f .body .attitude) ∙ l2
+  l3 = length-putAttitude s2 (i + 24) (bodyOf f .attitude) ∙ l2
 
   l4 : length s4 ≡ length s
-  l4 = length-putVec s3 (i + 40) (f .body .«angular_velocity_radps») ∙ l3
+  l4 = length-putVec s3 (i + 40) (bodyOf f .«angular_velocity_radps») ∙ l3
 
   l5 : length s5 ≡ length s
   l5 = length-putFloats s4 (i + 52) (f .motors) 8 ∙ l4
@@ -290,13 +291,13 @@ module _ (s : List ℕ) (i : ℕ) (f : Flight) (l : i + 180 ≤ length s) (h : F
   k4 j m = k5 j (omega arith) ∙ slots-before s4 (i + 52) (f .motors) 8 j m
 
   k3 : Kept s3 s8 (i + 40)
-  k3 j m = k4 j (omega arith) ∙ vec-before s3 (i + 40) (f .body .«angular_velocity_radps») j m
+  k3 j m = k4 j (omega arith) ∙ vec-before s3 (i + 40) (bodyOf f .«angular_velocity_radps») j m
 
   k2 : Kept s2 s8 (i + 24)
-  k2 j m = k3 j (omega arith) ∙ attitude-before s2 (i + 24) (f .body .attitude) j m
+  k2 j m = k3 j (omega arith) ∙ attitude-before s2 (i + 24) (bodyOf f .attitude) j m
 
   k1 : Kept s1 s8 (i + 12)
-  k1 j m = k2 j (omega arith) ∙ vec-before s1 (i + 12) (f .body .«velocity_ned_mps») j m
+  k1 j m = k2 j (omega arith) ∙ vec-before s1 (i + 12) (bodyOf f .«velocity_ned_mps») j m
 
   pub length-putFlight : length (putFlight s i f) ≡ length s
   unfolding putFlight putBody
@@ -308,13 +309,13 @@ module _ (s : List ℕ) (i : ℕ) (f : Flight) (l : i + 180 ≤ length s) (h : F
   flight-same =
       simp (
         vec-kept s1 s8 (i + 12) i k1 (omega arith),
-        vec-same s i (f .body .«position_ned_m») (omega arith) (h .position-fits),
+        vec-same s i (bodyOf f .«position_ned_m») (omega arith) (h .position-fits),
         vec-kept s2 s8 (i + 24) (i + 12) k2 (omega arith),
-        vec-same s1 (i + 12) (f .body .«velocity_ned_mps») (omega (arith, l1)) (h .velocity-fits),
+        vec-same s1 (i + 12) (bodyOf f .«velocity_ned_mps») (omega (arith, l1)) (h .velocity-fits),
         attitude-kept s3 s8 (i + 40) (i + 24) k3 (omega arith),
-        attitude-same s2 (i + 24) (f .body .attitude) (omega (arith, l2)) (h .attitude-fits),
+        attitude-same s2 (i + 24) (bodyOf f .attitude) (omega (arith, l2)) (h .attitude-fits),
         vec-kept s4 s8 (i + 52) (i + 40) k4 (omega arith),
-        vec-same s3 (i + 40) (f .body .«angular_velocity_radps») (omega (arith, l3)) (h .rates-fit),
+        vec-same s3 (i + 40) (bodyOf f .«angular_velocity_radps») (omega (arith, l3)) (h .rates-fit),
         slots-kept s5 s8 (i + 84) (i + 52) k5 (omega arith),
         slots-same s4 (i + 52) (f .motors) (omega (arith, l4)) (h .motors-fit),
         slots-kept s6 s8 (i + 116) (i + 84) k6 (omega arith),

@@ -10,6 +10,7 @@ use Rattle.answers.specs.declared.Answer.{Answer}
 use Rattle.answers.specs.declared.Answer.the-variants.{Done, StateOutside, WrongLength}
 use Rattle.body.specs.declared.Body.{Body}
 use Rattle.flight.specs.Envelope.{outsideOf, zeroFlight}
+use Rattle.flight.specs.State.{bodyOf, flightOf}
 use Rattle.flight.specs.declared.Flight.{Flight}
 use Rattle.flight.specs.declared.Tick.{Tick}
 use Rattle.float.specs.Bytes.{put, word}
@@ -96,18 +97,14 @@ floatsFrom s i = slots (slotFrom s i)
 
 -- the state whose block begins at i, with the thrust scales and the lift rotors' values given
 unfoldable pub flightWith : List Float → List Float → List ℕ → ℕ → Flight
-flightWith scales lift s i = record {
-  body = record {
-    «position_ned_m» = vecFrom s i;
-    «velocity_ned_mps» = vecFrom s (i + velocityAt);
-    attitude = attitudeFrom s (i + attitudeAt);
-    «angular_velocity_radps» = vecFrom s (i + ratesAt);
-  };
-  motors = floatsFrom s (i + motorsAt);
-  servos = floatsFrom s (i + servosAt);
-  «thrust_scale» = scales;
-  «lift_motors» = lift;
-}
+flightWith scales lift s i =
+    let body : Body = record {
+      «position_ned_m» = vecFrom s i;
+      «velocity_ned_mps» = vecFrom s (i + velocityAt);
+      attitude = attitudeFrom s (i + attitudeAt);
+      «angular_velocity_radps» = vecFrom s (i + ratesAt);
+    } in
+    flightOf body (floatsFrom s (i + motorsAt)) (floatsFrom s (i + servosAt)) scales lift
 
 -- and with its own
 unfoldable pub flightFrom : List ℕ → ℕ → Flight
@@ -200,7 +197,7 @@ unfoldable pub putFlight : List ℕ → ℕ → Flight → List ℕ
 putFlight s i f =
     putFloats
     (putFloats
-    (putFloats (putFloats (putBody s i (f .body)) (i + motorsAt) (f .motors) 8) (i + servosAt) (f .servos) 8)
+    (putFloats (putFloats (putBody s i (bodyOf f)) (i + motorsAt) (f .motors) 8) (i + servosAt) (f .servos) 8)
     (i + scalesAt)
     (f .«thrust_scale»)
     8)

@@ -112,13 +112,7 @@ fn read_flight(s: &[u8], at: usize, thrust_scale: [f32; 8], lift_motors: [f32; 8
         attitude,
         angular_velocity_radps,
     };
-    Flight {
-        body,
-        motors,
-        servos,
-        thrust_scale,
-        lift_motors,
-    }
+    Flight::of(body, motors, servos, thrust_scale, lift_motors)
 }
 
 // A refused state: the reply, and a state of zeros.
@@ -271,7 +265,7 @@ fn write_flight(s: &mut [u8], at: usize, f: Flight)
     let servos = f.servos;
     let thrust_scale = f.thrust_scale;
     let lift_motors = f.lift_motors;
-    write_body(s, at, f.body);
+    write_body(s, at, f.body());
     write_floats(s, at + MOTORS_AT, motors);
     write_floats(s, at + SERVOS_AT, servos);
     write_floats(s, at + SCALES_AT, thrust_scale);

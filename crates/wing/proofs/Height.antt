@@ -12,6 +12,7 @@ use Rattle.airframe.specs.declared.Airframe.{Airframe}
 use Rattle.answers.specs.declared.Answer.the-variants.{NumberOutOfRange}
 use Rattle.flight.proofs.Range.{position-within}
 use Rattle.flight.specs.Envelope.{outsideOf}
+use Rattle.flight.specs.State.{bodyOf}
 use Rattle.flight.specs.declared.Flight.{Flight}
 use Rattle.flight.specs.declared.Tick.{Tick}
 use Rattle.float.proofs.Interval.{within-finite}
@@ -28,7 +29,7 @@ use Rattle.wing.specs.declared.Ticked.{Ticked}
 pub density-for-in : (f : Flight) → outsideOf f ≡ 0 → Within (densityOf lastRow) (densityOf 0) (densityFor f)
 unfolding densityFor
 density-for-in f e =
-    let z = f .body .«position_ned_m» .z in
+    let z = f .«down_m» in
     let limit = rounded 1000000 1 in
     let down : T (finite z) = within-finite (neg limit) limit z (unfold neg round in tt) (unfold round in tt) (position-within f e .z) in
     density-in (neg z) (finite-number (neg z) (neg-finite z down))
@@ -42,7 +43,7 @@ module _ (a : Airframe) (f : Flight) (t : Tick) where
       let motors = spunOf a f (t .motors) h in
       let surfaces = movedOf a f (t .servos) h in
       let lifting = liftedOf a f (t .motors) h in
-      steppedOf (a .model) f (motors .running) (surfaces .running) lifting (loadsOf a motors surfaces lifting (f .body) (t .«wind_ned_mps») density) h
+      steppedOf (a .model) f (motors .running) (surfaces .running) lifting (loadsOf a motors surfaces lifting (bodyOf f) (t .«wind_ned_mps») density) h
 
   -- and the tick, with its tests
   abbrev pub tickIn : Float → Ticked
@@ -52,7 +53,7 @@ module _ (a : Airframe) (f : Flight) (t : Tick) where
   unfolding tickOf nextOf nextFrom
   tick-in e = ap tickIn e
 
-  pub tick-at-0 : (s : Bool) → f .body .«position_ned_m» .z ≡ flip s nought → tickOf a f t ≡ tickIn (rounded 1225 1000)
+  pub tick-at-0 : (s : Bool) → f .«down_m» ≡ flip s nought → tickOf a f t ≡ tickIn (rounded 1225 1000)
   unfolding densityFor neg
   tick-at-0 s e = tick-in (ap (λ (z : Float). densityAt (neg z)) e ∙ height-0 s)
     where

@@ -13,6 +13,7 @@ use Rattle.answers.specs.declared.Answer.{Answer}
 use Rattle.answers.specs.declared.Answer.the-variants.{Departure, NumberOutOfRange, StateOutside, StepOutside, WindUnusable}
 use Rattle.body.specs.declared.Body.{Body}
 use Rattle.flight.specs.Envelope.{isInside, outsideOf, slotsOutside}
+use Rattle.flight.specs.State.{bodyOf, flightOf}
 use Rattle.flight.specs.declared.Flight.{Flight}
 use Rattle.flight.specs.declared.Tick.{Tick}
 use Rattle.float.proofs.Mirror.{by-test}
@@ -73,8 +74,8 @@ module _ (a : Airframe) (p : a .«lift_present» ≡ false) where
       let h = t .«step_s» in
       let surfaces = movedOf a f (t .servos) h in
       let motors = spunOf a f (t .motors) h in
-      let air = airOf (f .body) (t .«wind_ned_mps») in
-      steppedOf (a .model) f (motors .running) (surfaces .running) (f .«lift_motors») (unliftedUnder a (pullOf (a .model) motors air) surfaces (f .body) air (densityFor f)) h
+      let air = airOf (bodyOf f) (t .«wind_ned_mps») in
+      steppedOf (a .model) f (motors .running) (surfaces .running) (f .«lift_motors») (unliftedUnder a (pullOf (a .model) motors air) surfaces (bodyOf f) air (densityFor f)) h
 
   next-unlifted : (f : Flight) (t : Tick) → nextOf a f t ≡ nextUnlifted f t
   unfolding nextOf nextFrom liftedOf liftSpun loadsOf loadsUnder loadedBy withLift withThrust
@@ -86,7 +87,7 @@ module _ (a : Airframe) (p : a .«lift_present» ≡ false) where
 
 -- ---- and with other values of the lift rotors, accepted ones, all else is the same
 abbrev pub lifting : Flight → List Float → Flight
-lifting f xs = record { body = f .body; motors = f .motors; servos = f .servos; «thrust_scale» = f .«thrust_scale»; «lift_motors» = xs }
+lifting f xs = flightOf (bodyOf f) (f .motors) (f .servos) (f .«thrust_scale») xs
 
 abbrev pub handing : List Float → Ticked → Ticked
 handing xs k = record { report = k .report; flight = lifting (k .flight) xs }

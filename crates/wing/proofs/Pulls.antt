@@ -5,6 +5,7 @@ use mathlib.Core.Path.{_≡_, ap}
 use Rattle.airframe.specs.Acceptance.{refusedPlace}
 use Rattle.airframe.specs.declared.Airframe.{Airframe}
 use Rattle.answers.specs.declared.Answer.the-variants.{NumberOutOfRange}
+use Rattle.flight.specs.State.{bodyOf}
 use Rattle.flight.specs.declared.Flight.{Flight}
 use Rattle.flight.specs.declared.Tick.{Tick}
 use Rattle.motors.specs.Motor.{wrenchWith}
@@ -21,12 +22,12 @@ module _ (a : Airframe) (f : Flight) (t : Tick) where
       let surfaces = movedOf a f (t .servos) h in
       let lifting = liftedOf a f (t .motors) h in
       steppedOf (a .model) f (spunOf a f (t .motors) h .running) (surfaces .running) lifting
-      (loadsUnder a pull surfaces lifting (f .body) (airOf (f .body) (t .«wind_ned_mps»)) (densityFor f)) h
+      (loadsUnder a pull surfaces lifting (bodyOf f) (airOf (bodyOf f) (t .«wind_ned_mps»)) (densityFor f)) h
 
   -- and the tick, with its tests
   abbrev pub tickUnder : MotorWrench → Ticked
   tickUnder pull = cond (eqb (refusedPlace a) 0) (acceptedTick f t (nextUnder pull)) (refusedOf (NumberOutOfRange (refusedPlace a)) f)
 
-  pub tick-under : {pull : MotorWrench} → wrenchWith (spunOf a f (t .motors) (t .«step_s»)) (a .model .«thrust_falloff») (airOf (f .body) (t .«wind_ned_mps») .x) ≡ pull → tickOf a f t ≡ tickUnder pull
+  pub tick-under : {pull : MotorWrench} → wrenchWith (spunOf a f (t .motors) (t .«step_s»)) (a .model .«thrust_falloff») (airOf (bodyOf f) (t .«wind_ned_mps») .x) ≡ pull → tickOf a f t ≡ tickUnder pull
   unfolding tickOf nextOf nextFrom loadsOf pullOf
   tick-under e = ap tickUnder e

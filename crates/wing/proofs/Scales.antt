@@ -4,6 +4,7 @@ use lib.Ieee.{binary32, fits}
 use lib.ListN.{replicate}
 use mathlib.Core.Path.{_≡_, refl}
 use Rattle.airframe.specs.declared.Airframe.{Airframe}
+use Rattle.flight.specs.State.{bodyOf}
 use Rattle.flight.specs.declared.Flight.{Flight}
 use Rattle.flight.specs.declared.Tick.{Tick}
 use Rattle.float.specs.Notation.{one}
@@ -23,6 +24,6 @@ scale-stays a f t = of-tick (λ (k : Ticked). k .flight .«thrust_scale» ≡ f 
 
 -- ---- scales of 1; the most thrust is a 32-bit float, as its type tells
 pub tick-as-built : (a : Airframe) (f : Flight) (t : Tick) → f .«thrust_scale» ≡ replicate 8 one → T (fits binary32 (a .motors .layout .«max_thrust_n»))
-    → tickOf a f t ≡ tickUnder a f t (builtPull (spunOf a f (t .motors) (t .«step_s»)) (a .model .«thrust_falloff») (airOf (f .body) (t .«wind_ned_mps») .x))
+    → tickOf a f t ≡ tickUnder a f t (builtPull (spunOf a f (t .motors) (t .«step_s»)) (a .model .«thrust_falloff») (airOf (bodyOf f) (t .«wind_ned_mps») .x))
 unfolding spunOf spinOf motorsFor
-tick-as-built a f t e h = tick-under a f t (pull-as-built (spunOf a f (t .motors) (t .«step_s»)) (a .model .«thrust_falloff») (airOf (f .body) (t .«wind_ned_mps») .x) e h)
+tick-as-built a f t e h = tick-under a f t (pull-as-built (spunOf a f (t .motors) (t .«step_s»)) (a .model .«thrust_falloff») (airOf (bodyOf f) (t .«wind_ned_mps») .x) e h)

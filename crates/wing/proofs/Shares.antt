@@ -6,6 +6,7 @@ use mathlib.Core.Path.{_≡_}
 use Rattle.airframe.proofs.Range.{exponent-in, lift-exponent-in}
 use Rattle.airframe.specs.Acceptance.{refusedPlace}
 use Rattle.airframe.specs.declared.Airframe.{Airframe}
+use Rattle.flight.specs.State.{bodyOf}
 use Rattle.flight.specs.declared.Flight.{Flight}
 use Rattle.flight.specs.declared.Tick.{Tick}
 use Rattle.float.specs.Interval.{Within}
@@ -29,6 +30,6 @@ lift-shares-in a f e p g r k l = share-in (at (f .«lift_motors») k) (a .lift .
 
 -- ---- the exponent 2
 pub tick-as-square : (a : Airframe) (f : Flight) (t : Tick) → eq (a .motors .layout .«thrust_exponent») two ≡ true
-    → tickOf a f t ≡ tickUnder a f t (squarePull (spunOf a f (t .motors) (t .«step_s»)) (a .model .«thrust_falloff») (airOf (f .body) (t .«wind_ned_mps») .x))
+    → tickOf a f t ≡ tickUnder a f t (squarePull (spunOf a f (t .motors) (t .«step_s»)) (a .model .«thrust_falloff») (airOf (bodyOf f) (t .«wind_ned_mps») .x))
 unfolding spunOf spinOf motorsFor
-tick-as-square a f t e = tick-under a f t (pull-as-square (spunOf a f (t .motors) (t .«step_s»)) (a .model .«thrust_falloff») (airOf (f .body) (t .«wind_ned_mps») .x) e)
+tick-as-square a f t e = tick-under a f t (pull-as-square (spunOf a f (t .motors) (t .«step_s»)) (a .model .«thrust_falloff») (airOf (bodyOf f) (t .«wind_ned_mps») .x) e)

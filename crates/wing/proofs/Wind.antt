@@ -14,6 +14,7 @@ use Rattle.answers.specs.declared.Answer.the-variants.{WindUnusable}
 use Rattle.body.specs.Motion.{airVelocity}
 use Rattle.flight.proofs.Range.{norm-within, velocity-within}
 use Rattle.flight.specs.Envelope.{isInside, outsideOf}
+use Rattle.flight.specs.State.{bodyOf}
 use Rattle.flight.specs.declared.Flight.{Flight}
 use Rattle.flight.specs.declared.Tick.{Tick}
 use Rattle.float.proofs.Sizes.{twoTo}
@@ -39,15 +40,15 @@ unfolding refusedOf
 unusable-refused a f t w = of-tick (λ (k : Ticked). k ≡ refusedOf (k .report .answer) f) a f t (λ x n. refl) (λ p. absurd (true≢false (sym (p .wind) ∙ w)))
 
 -- ---- the air's velocity on body axes, from a state inside the envelope: at most 2 ^ 18 m/s in size, so a number
-pub air-sized : (f : Flight) (wind : Vec3) → isInside f ≡ true → windUsable wind ≡ true → VecSized 18 (airOf (f .body) wind)
+pub air-sized : (f : Flight) (wind : Vec3) → isInside f ≡ true → windUsable wind ≡ true → VecSized 18 (airOf (bodyOf f) wind)
 unfolding airOf airVelocity isInside windUsable
 air-sized f wind i u =
     let e : outsideOf f ≡ 0 = eqb-true _ _ i in
     let small : T (le (twoTo 2) (rounded 11 10)) → ⊥ = λ h. absurd (unfold le round in h) in
-    inverse-rotate-sized (f .body .attitude) (norm-sized (f .body .attitude) (rounded 11 10) small (norm-within f e .at-most))
+    inverse-rotate-sized (bodyOf f .attitude) (norm-sized (bodyOf f .attitude) (rounded 11 10) small (norm-within f e .at-most))
     (sub-sized 11 (within-sized 10 (velocity-within f e) (unfold le round in tt)) (within-sized 8 (vec-within windMost wind u) (unfold le round in tt)) (unfold le add round in tt))
 
-pub accepted-air : (a : Airframe) (f : Flight) (t : Tick) → numberOf (tickOf a f t .report .answer) ≡ 0 → VecSized 18 (airOf (f .body) (t .«wind_ned_mps»))
+pub accepted-air : (a : Airframe) (f : Flight) (t : Tick) → numberOf (tickOf a f t .report .answer) ≡ 0 → VecSized 18 (airOf (bodyOf f) (t .«wind_ned_mps»))
 accepted-air a f t e = let p = passed a f t e in air-sized f (t .«wind_ned_mps») (p .state) (p .wind)
 
 -- ---- and so are the angles that a tick reports, refused or not

@@ -12,6 +12,7 @@ use Rattle.body.specs.Motion.{stepOf}
 use Rattle.body.specs.declared.MassProperties.{MassProperties}
 use Rattle.fixed_wing.specs.declared.FixedWingModel.{FixedWingModel}
 use Rattle.flight.specs.Envelope.{isInside}
+use Rattle.flight.specs.State.{bodyOf, flightOf}
 use Rattle.flight.specs.declared.Flight.{Flight}
 use Rattle.flight.specs.declared.Tick.{Tick}
 use Rattle.float.specs.Interval.{inside}
@@ -45,7 +46,7 @@ liftedOf a f commands h = liftSpun a f commands (lagFactor (a .lift .motors) h)
 
 -- the density at the tick's starting height, which is position down negated (02, 6)
 unfoldable pub densityFor : Flight → Float
-densityFor f = densityAt (neg (f .body .«position_ned_m» .z))
+densityFor f = densityAt (neg (f .«down_m»))
 
 -- Body::step under the loads; the lagged values are the state's running values, and its thrust scales stay (02, 2)
 unfoldable pub massOf : FixedWingModel → MassProperties
@@ -54,18 +55,12 @@ massOf m = record { «mass_kg» = m .«mass_kg»; «inertia_kgm2» = m .«inerti
 unfoldable pub steppedOf : FixedWingModel → Flight → List Float → List Float → List Float → Loaded → Float → Ticked
 steppedOf m f motors servos lifting l h = record {
   report = record { answer = Done; «alpha_rad» = l .«alpha_rad»; «beta_rad» = l .«beta_rad»; «thrust_n» = l .«thrust_n» };
-  flight = record {
-    body = stepOf (f .body) (massOf m) (l .loads) h;
-    motors = motors;
-    servos = servos;
-    «thrust_scale» = f .«thrust_scale»;
-    «lift_motors» = lifting;
-  };
+  flight = flightOf (stepOf (bodyOf f) (massOf m) (l .loads) h) motors servos (f .«thrust_scale») lifting;
 }
 
 unfoldable pub nextFrom : Airframe → Flight → Motors → Surfaces → List Float → Vec3 → Float → Ticked
 nextFrom a f motors surfaces lifting wind h =
-    steppedOf (a .model) f (motors .running) (surfaces .running) lifting (loadsOf a motors surfaces lifting (f .body) wind (densityFor f)) h
+    steppedOf (a .model) f (motors .running) (surfaces .running) lifting (loadsOf a motors surfaces lifting (bodyOf f) wind (densityFor f)) h
 
 unfoldable pub nextOf : Airframe → Flight → Tick → Ticked
 nextOf a f t =

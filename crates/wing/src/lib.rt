@@ -214,7 +214,7 @@ fn next_with(
         motors,
         surfaces,
         lifting,
-        f.body,
+        f.body(),
         t.wind_ned_mps,
         density_for(f, densities),
         powers,
@@ -229,9 +229,7 @@ fn density_for(f: Flight, densities: &[f32; ROW_COUNT]) -> f32
     requires { ⌜ now densities ≡ Density.densities ⌝ }
     ensures { λ r. ⌜ r ≡ TickOf.densityFor f ⌝ }
 {
-    let body = f.body;
-    let position = body.position_ned_m;
-    air::density_with(-position.z, densities)
+    air::density_with(-f.down_m, densities)
 }
 
 // The lift rotors' running values after a step of their lag: each follows the motor command of its slot. Without lift numbers they
@@ -390,16 +388,10 @@ fn stepped(
         mass_kg: m.mass_kg,
         inertia_kgm2,
     };
-    let before = f.body;
+    let before = f.body();
     let body = before.step(mass, loaded.loads, step_s);
     let scales = f.thrust_scale;
-    let flight = Flight {
-        body,
-        motors,
-        servos,
-        thrust_scale: scales,
-        lift_motors,
-    };
+    let flight = Flight::of(body, motors, servos, scales, lift_motors);
     let answer = Answer::Done;
     let report = Report {
         answer,

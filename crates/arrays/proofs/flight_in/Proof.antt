@@ -28,14 +28,18 @@ slots-in-requires-3 c κs = search needs
 slots-in-requires-4 : tie.Need-slots-in-requires-4
 slots-in-requires-4 c κs = search needs
 
+of-requires : tie.Need-of-requires
+of-requires c κs = search needs
+
 returns : tie.Need-returns
 unfolding flightIn
 returns c =
-    let s = c .before .before .before in
+    let s = c .before .before .before .before in
     simp (
-      c .slots-in4 .ensures,
-      c .before .slots-in3 .ensures,
-      c .before .before .slots-in2 .ensures,
+      c .of .ensures,
+      c .before .slots-in4 .ensures,
+      c .before .before .slots-in3 .ensures,
+      c .before .before .before .slots-in2 .ensures,
       s .slots-in .ensures,
       s .before .vec-in3 .ensures,
       s .before .before .quat-in .ensures,
@@ -55,4 +59,5 @@ flight-in-spec =
     slots-in-requires-2
     slots-in-requires-3
     slots-in-requires-4
+    of-requires
     returns)

@@ -5,101 +5,101 @@ use borrow.Author.Needs.{needs}
 use Rattle.arrays.proofs.flight_numbers.Statement.{statement}
 use Rattle.arrays.proofs.flight_numbers.Tie as tie
 
-array-read-t13 : tie.Need-array-read-t13
-array-read-t13 c = search needs
+array-read-t8 : tie.Need-array-read-t8
+array-read-t8 c = search needs
 
-array-read-t16 : tie.Need-array-read-t16
-array-read-t16 c = search needs
+array-read-t11 : tie.Need-array-read-t11
+array-read-t11 c = search needs
 
-array-read-t19 : tie.Need-array-read-t19
-array-read-t19 c = search needs
+array-read-t14 : tie.Need-array-read-t14
+array-read-t14 c = search needs
 
-array-read-t22 : tie.Need-array-read-t22
-array-read-t22 c = search needs
+array-read-t17 : tie.Need-array-read-t17
+array-read-t17 c = search needs
 
-array-read-t25 : tie.Need-array-read-t25
-array-read-t25 c = search needs
+array-read-t20 : tie.Need-array-read-t20
+array-read-t20 c = search needs
 
-array-read-t28 : tie.Need-array-read-t28
-array-read-t28 c = search needs
+array-read-t23 : tie.Need-array-read-t23
+array-read-t23 c = search needs
 
-array-read-t31 : tie.Need-array-read-t31
-array-read-t31 c = search needs
+array-read-t26 : tie.Need-array-read-t26
+array-read-t26 c = search needs
 
-array-read-t34 : tie.Need-array-read-t34
-array-read-t34 c = search needs
+array-read-t29 : tie.Need-array-read-t29
+array-read-t29 c = search needs
 
-array-read-t37 : tie.Need-array-read-t37
-array-read-t37 c = search needs
+array-read-t32 : tie.Need-array-read-t32
+array-read-t32 c = search needs
 
-array-read-t40 : tie.Need-array-read-t40
-array-read-t40 c = search needs
+array-read-t35 : tie.Need-array-read-t35
+array-read-t35 c = search needs
 
-array-read-t43 : tie.Need-array-read-t43
-array-read-t43 c = search needs
+array-read-t38 : tie.Need-array-read-t38
+array-read-t38 c = search needs
 
-array-read-t46 : tie.Need-array-read-t46
-array-read-t46 c = search needs
+array-read-t41 : tie.Need-array-read-t41
+array-read-t41 c = search needs
 
-array-read-t49 : tie.Need-array-read-t49
-array-read-t49 c = search needs
+array-read-t44 : tie.Need-array-read-t44
+array-read-t44 c = search needs
 
-array-read-t52 : tie.Need-array-read-t52
-array-read-t52 c = search needs
+array-read-t47 : tie.Need-array-read-t47
+array-read-t47 c = search needs
 
-array-read-t55 : tie.Need-array-read-t55
-array-read-t55 c = search needs
+array-read-t50 : tie.Need-array-read-t50
+array-read-t50 c = search needs
 
-array-read-t58 : tie.Need-array-read-t58
-array-read-t58 c = search needs
+array-read-t53 : tie.Need-array-read-t53
+array-read-t53 c = search needs
 
-array-read-t61 : tie.Need-array-read-t61
-array-read-t61 c = search needs
+array-read-t56 : tie.Need-array-read-t56
+array-read-t56 c = search needs
 
-array-read-t64 : tie.Need-array-read-t64
-array-read-t64 c = search needs
+array-read-t59 : tie.Need-array-read-t59
+array-read-t59 c = search needs
 
-array-read-t67 : tie.Need-array-read-t67
-array-read-t67 c = search needs
+array-read-t62 : tie.Need-array-read-t62
+array-read-t62 c = search needs
 
-array-read-t70 : tie.Need-array-read-t70
-array-read-t70 c = search needs
+array-read-t65 : tie.Need-array-read-t65
+array-read-t65 c = search needs
 
-array-read-t73 : tie.Need-array-read-t73
-array-read-t73 c = search needs
+array-read-t68 : tie.Need-array-read-t68
+array-read-t68 c = search needs
 
-array-read-t76 : tie.Need-array-read-t76
-array-read-t76 c = search needs
+array-read-t71 : tie.Need-array-read-t71
+array-read-t71 c = search needs
 
-array-read-t79 : tie.Need-array-read-t79
-array-read-t79 c = search needs
+array-read-t74 : tie.Need-array-read-t74
+array-read-t74 c = search needs
 
-array-read-t82 : tie.Need-array-read-t82
-array-read-t82 c = search needs
+array-read-t77 : tie.Need-array-read-t77
+array-read-t77 c = search needs
 
-array-read-t85 : tie.Need-array-read-t85
-array-read-t85 c = search needs
+array-read-t80 : tie.Need-array-read-t80
+array-read-t80 c = search needs
 
-array-read-t88 : tie.Need-array-read-t88
-array-read-t88 c = search needs
+array-read-t83 : tie.Need-array-read-t83
+array-read-t83 c = search needs
 
-array-read-t91 : tie.Need-array-read-t91
-array-read-t91 c = search needs
+array-read-t86 : tie.Need-array-read-t86
+array-read-t86 c = search needs
 
-array-read-t94 : tie.Need-array-read-t94
-array-read-t94 c = search needs
+array-read-t89 : tie.Need-array-read-t89
+array-read-t89 c = search needs
 
-array-read-t97 : tie.Need-array-read-t97
-array-read-t97 c = search needs
+array-read-t92 : tie.Need-array-read-t92
+array-read-t92 c = search needs
 
-array-read-t100 : tie.Need-array-read-t100
-array-read-t100 c = search needs
+array-read-t95 : tie.Need-array-read-t95
+array-read-t95 c = search needs
 
-array-read-t103 : tie.Need-array-read-t103
-array-read-t103 c = search needs
+array-read-t98 : tie.Need-array-read-t98
+array-read-t98 c = search needs
 
-array-read-t106 : tie.Need-array-read-t106
-array-read-t106 c = search needs
+array-read-t101 : tie.Need-array-read-t101
+array-read-t101 c = search needs
 
 returns : tie.Need-returns
 unfolding flightNumbers
@@ -109,36 +109,36 @@ pub flight-numbers-spec : {M : Type 1} → statement M
 flight-numbers-spec =
     tie.close
     (tie.spec
-    array-read-t13
-    array-read-t16
-    array-read-t19
-    array-read-t22
-    array-read-t25
-    array-read-t28
-    array-read-t31
-    array-read-t34
-    array-read-t37
-    array-read-t40
-    array-read-t43
-    array-read-t46
-    array-read-t49
-    array-read-t52
-    array-read-t55
-    array-read-t58
-    array-read-t61
-    array-read-t64
-    array-read-t67
-    array-read-t70
-    array-read-t73
-    array-read-t76
-    array-read-t79
-    array-read-t82
-    array-read-t85
-    array-read-t88
-    array-read-t91
-    array-read-t94
-    array-read-t97
-    array-read-t100
-    array-read-t103
-    array-read-t106
+    array-read-t8
+    array-read-t11
+    array-read-t14
+    array-read-t17
+    array-read-t20
+    array-read-t23
+    array-read-t26
+    array-read-t29
+    array-read-t32
+    array-read-t35
+    array-read-t38
+    array-read-t41
+    array-read-t44
+    array-read-t47
+    array-read-t50
+    array-read-t53
+    array-read-t56
+    array-read-t59
+    array-read-t62
+    array-read-t65
+    array-read-t68
+    array-read-t71
+    array-read-t74
+    array-read-t77
+    array-read-t80
+    array-read-t83
+    array-read-t86
+    array-read-t89
+    array-read-t92
+    array-read-t95
+    array-read-t98
+    array-read-t101
     returns)

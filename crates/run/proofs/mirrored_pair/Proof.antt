@@ -32,8 +32,8 @@ run-track-requires-2 c κs = search needs
 -- what owning the state tells: the running values of its motors and lift rotors are 32-bit floats
 held : (c : tie.Start) → Held (c .args .f)
 held c = record {
-  motors = record { motor = λ k l. field-held (c .args .f .motors) _ k (c .good .1 .0 .1 .1 .1 .0 .1 .1) };
-  lift = record { motor = λ k l. field-held (c .args .f .«lift_motors») _ k (c .good .1 .0 .1 .1 .1 .1 .1 .1 .0 .1 .1) };
+  motors = record { motor = λ k l. field-held (c .args .f .motors) _ k (c .good .1 .0 .1 .1 .1 .1 .1 .1 .1 .1 .1 .1 .1 .1 .1 .1 .1 .0 .1 .1) };
+  lift = record { motor = λ k l. field-held (c .args .f .«lift_motors») _ k (c .good .1 .0 .1 .1 .1 .1 .1 .1 .1 .1 .1 .1 .1 .1 .1 .1 .1 .1 .1 .1 .0 .1 .1) };
 }
 
 returns : tie.Need-returns

@@ -37,9 +37,14 @@ add-read-floats-2 c = search needs
 read-floats-requires-2 : tie.Need-read-floats-requires-2
 read-floats-requires-2 c κs = search needs
 
+of-requires : tie.Need-of-requires
+of-requires c κs = search needs
+
 returns : tie.Need-returns
 unfolding flightWith
-returns c = simp (c .read-floats2 .ensures, c .before .read-floats .ensures, c .before .before .read-vec3 .ensures, c .before .before .before .read-attitude .ensures, c .before .before .before .before .read-vec2 .ensures, c .before .before .before .before .before .read-vec .ensures)
+returns c =
+    let b = c .before in
+    simp (c .of .ensures, b .read-floats2 .ensures, b .before .read-floats .ensures, b .before .before .read-vec3 .ensures, b .before .before .before .read-attitude .ensures, b .before .before .before .before .read-vec2 .ensures, b .before .before .before .before .before .read-vec .ensures)
 
 pub read-flight-spec : {M : Type 1} → statement M
 read-flight-spec =
@@ -56,4 +61,5 @@ read-flight-spec =
     read-floats-requires
     add-read-floats-2
     read-floats-requires-2
+    of-requires
     returns)

@@ -4,9 +4,12 @@ use lib.Ieee.{Float}
 use mathlib.Core.List.{List}
 use mathlib.Core.Path.{_∙_, ap}
 use borrow.Author.Needs.{needs}
-use Rattle.state_block.specs.Layout.{liftAt, motorsAt, putFlight, putFloats, scalesAt, servosAt}
+use Rattle.state_block.specs.Layout.{liftAt, motorsAt, putBody, putFlight, putFloats, scalesAt, servosAt}
 use Rattle.state_block.proofs.write_flight.Statement.{statement}
 use Rattle.state_block.proofs.write_flight.Tie as tie
+
+body-requires : tie.Need-body-requires
+body-requires c κs = search needs
 
 write-body-requires : tie.Need-write-body-requires
 write-body-requires c κs = search needs
@@ -46,15 +49,16 @@ returns c =
     let servos = scales .before .before .before .before in
     let motors = servos .before .before .before .before in
     let body = motors .before .before .before .before in
-    let a = body .before .before .before .before .before .before .before .args in
+    let a = body .before .before .before .before .before .before .before .before .args in
     let slots : ℕ → List Float → List ℕ → List ℕ = λ at xs s. putFloats s (a .at + at) xs 8 in
     lift .write-floats4 .ensures
-    ∙ ap (slots liftAt (a .f .«lift_motors»)) (scales .write-floats3 .ensures ∙ ap (slots scalesAt (a .f .«thrust_scale»)) (servos .write-floats2 .ensures ∙ ap (slots servosAt (a .f .servos)) (motors .write-floats .ensures ∙ ap (slots motorsAt (a .f .motors)) (body .write-body .ensures))))
+    ∙ ap (slots liftAt (a .f .«lift_motors»)) (scales .write-floats3 .ensures ∙ ap (slots scalesAt (a .f .«thrust_scale»)) (servos .write-floats2 .ensures ∙ ap (slots servosAt (a .f .servos)) (motors .write-floats .ensures ∙ ap (slots motorsAt (a .f .motors)) (body .write-body .ensures ∙ ap (putBody _ (a .at)) (body .before .body .ensures)))))
 
 pub write-flight-spec : {M : Type 1} → statement M
 write-flight-spec =
     tie.close
     (tie.spec
+    body-requires
     write-body-requires
     add-write-floats
     write-floats-requires

@@ -24,11 +24,14 @@ move-to-requires c κs = search needs
 lift-spun-requires : tie.Need-lift-spun-requires
 lift-spun-requires c κs = search needs
 
+body-requires : tie.Need-body-requires
+body-requires c κs = search needs
+
 density-for-requires : tie.Need-density-for-requires
-density-for-requires c κs = search needs
+density-for-requires c κs = search (needs, c .before .before .before .before .before .before .before .before .pre)
 
 loads-requires : tie.Need-loads-requires
-loads-requires c κs = search needs
+loads-requires c κs = search (needs, c .before .before .before .before .before .before .before .before .before .pre)
 
 stepped-requires : tie.Need-stepped-requires
 stepped-requires c κs = search needs
@@ -37,15 +40,16 @@ returns : tie.Need-returns
 unfolding nextOf nextFrom spunOf movedOf lagFactor beginBy lagConstantsOf ofBits round
 returns c =
     let l = c .before .before .before in
-    let s = l .before .before .before .before .before in
+    let s = l .before .before .before .before .before .before in
     let x = s .before .before .before .before in
     simp (
       c .stepped .ensures,
       l .loads .ensures,
       l .before .density-for .ensures,
-      l .before .before .lift-spun .ensures,
-      l .before .before .before .move-to .ensures,
-      l .before .before .before .before .surfaces-of .ensures,
+      l .before .before .body .ensures,
+      l .before .before .before .lift-spun .ensures,
+      l .before .before .before .before .move-to .ensures,
+      l .before .before .before .before .before .surfaces-of .ensures,
       s .spin .ensures,
       s .before .motors-of .ensures,
       x .pre .0,
@@ -61,6 +65,7 @@ next-with-spec =
     surfaces-of-requires
     move-to-requires
     lift-spun-requires
+    body-requires
     density-for-requires
     loads-requires
     stepped-requires

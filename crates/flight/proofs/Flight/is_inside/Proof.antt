@@ -5,6 +5,9 @@ use borrow.Author.Needs.{needs}
 use Rattle.flight.proofs.Flight.is_inside.Statement.{statement}
 use Rattle.flight.proofs.Flight.is_inside.Tie as tie
 
+body-requires : tie.Need-body-requires
+body-requires c κs = search needs
+
 is-inside-requires : tie.Need-is-inside-requires
 is-inside-requires c κs = search needs
 
@@ -76,12 +79,14 @@ returns c =
       b .before .before .norm-squared .ensures,
       b .before .before .before .is-inside2 .ensures,
       b .before .before .before .before .is-inside .ensures,
+      b .before .before .before .before .before .before .before .before .before .body .ensures,
     )
 
 pub is-inside-spec : {M : Type 1} → statement M
 is-inside-spec =
     tie.close
     (tie.spec
+    body-requires
     is-inside-requires
     is-inside-requires-2
     norm-squared-requires

@@ -5,6 +5,9 @@ use borrow.Author.Needs.{needs}
 use Rattle.flight.proofs.Flight.outside.Statement.{statement}
 use Rattle.flight.proofs.Flight.outside.Tie as tie
 
+body-requires : tie.Need-body-requires
+body-requires c κs = search needs
+
 vec-outside-requires : tie.Need-vec-outside-requires
 vec-outside-requires c κs = search needs
 
@@ -99,12 +102,14 @@ returns c =
       b .before .before .before .before .after .ensures,
       b .before .before .before .before .before .vec-outside2 .ensures .0,
       b .before .before .before .before .before .before .vec-outside .ensures .0,
+      b .before .before .before .before .before .before .before .before .before .before .before .body .ensures,
     )
 
 pub outside-spec : {M : Type 1} → statement M
 outside-spec =
     tie.close
     (tie.spec
+    body-requires
     vec-outside-requires
     vec-outside-requires-2
     after-requires

@@ -18,6 +18,9 @@ wide-requires c κs = search needs
 put-decimal-requires : tie.Need-put-decimal-requires
 put-decimal-requires c κs = search needs
 
+body-requires : tie.Need-body-requires
+body-requires c κs = search needs
+
 put-body-requires : tie.Need-put-body-requires
 put-body-requires c κs = search needs
 
@@ -27,11 +30,11 @@ put-byte-requires-2 c κs = search needs
 returns : tie.Need-returns
 unfolding restText
 returns c =
-    let a = c .before .before .before .before .before .before .before .before .before .before .args in
-    let d = c .before .before .before .before in
-    let space = as-byte _ _ _ _ _ (c .before .before .before .before .before .before .before .before .put-byte .ensures) in
+    let b = c .before .before .before in
+    let d = b .before .before in
+    let space = as-byte _ _ _ _ _ (c .before .before .before .before .before .before .before .before .before .put-byte .ensures) in
     let number = same-text (ap decimalText (d .before .wide .ensures ∙ d .before .before .number .ensures)) (as-put _ _ (decimalText (d .before .wide .result)) _ _ _ (d .put-decimal .ensures)) in
-    let body = as-put _ _ (bodyText (a .f .body)) _ _ _ (c .before .before .put-body .ensures) in
+    let body = same-text (ap bodyText (b .body .ensures)) (as-put _ _ (bodyText (b .body .result)) _ _ _ (c .before .before .put-body .ensures)) in
     let newline = as-byte _ _ _ _ _ (c .put-byte2 .ensures) in
     let all = then (then (then space number) body) newline in
     (all .page, (all .next, search needs))
@@ -44,6 +47,7 @@ put-rest-spec =
     number-requires
     wide-requires
     put-decimal-requires
+    body-requires
     put-body-requires
     put-byte-requires-2
     returns)

@@ -16,6 +16,12 @@ same-slots-requires-3 c κs = search needs
 same-slots-requires-4 : tie.Need-same-slots-requires-4
 same-slots-requires-4 c κs = search needs
 
+body-requires : tie.Need-body-requires
+body-requires c κs = search needs
+
+body-requires-2 : tie.Need-body-requires-2
+body-requires-2 c κs = search needs
+
 same-body-requires : tie.Need-same-body-requires
 same-body-requires c κs = search needs
 
@@ -41,10 +47,12 @@ returns c =
       c .before .before .both2 .ensures,
       c .before .before .before .both .ensures,
       s .same-body .ensures,
-      s .before .same-slots4 .ensures,
-      s .before .before .same-slots3 .ensures,
-      s .before .before .before .same-slots2 .ensures,
-      s .before .before .before .before .same-slots .ensures,
+      s .before .body2 .ensures,
+      s .before .before .body .ensures,
+      s .before .before .before .same-slots4 .ensures,
+      s .before .before .before .before .same-slots3 .ensures,
+      s .before .before .before .before .before .same-slots2 .ensures,
+      s .before .before .before .before .before .before .same-slots .ensures,
     )
 
 pub same-flight-spec : {M : Type 1} → statement M
@@ -55,6 +63,8 @@ same-flight-spec =
     same-slots-requires-2
     same-slots-requires-3
     same-slots-requires-4
+    body-requires
+    body-requires-2
     same-body-requires
     both-requires
     both-requires-2
