@@ -15,7 +15,7 @@ use Rattle.vector.specs.Reflection.{VecRel}
 use Rattle.vector.specs.Vector.{addOf, normOf, scaleOf, vec}
 use Rattle.vector.specs.declared.Vec3.{Vec3}
 use Rattle.aero.specs.Reflection.{AeroRel}
-use Rattle.aero.specs.Wrench.{aileronMoment, elevatorAndRudder, flowForce, flowOf, movingAt, movingOf, rateMoments, sideslip, stallWash, staticMoments, stillOf, surfaceWrench, symmetricSpeed, torqueAt, washPitch, washedSurfaces, withSurfaces, wrenchOf}
+use Rattle.aero.specs.Wrench.{aileronMoment, elevatorAndRudder, flowForce, flowOf, movingAt, movingOf, rateMoments, sideslip, stallWash, staticMoments, stillOf, surfaceWrench, symmetricSpeed, torqueAt, washPitch, washedSurfaces, withSurfaces, aeroWrench}
 use Rattle.aero.specs.declared.Aero.{Aero}
 use Rattle.aero.specs.declared.Flow.{Flow}
 
@@ -93,8 +93,8 @@ still-mirror m w density h k =
     let s = surfaces-mirror m w nought k in
     record { force = s .force; torque = add-mirror (add-mirror (s .torque) (wash-pitch-mirror m w)) (rate-moments-mirror m _ h); alpha = s .alpha; beta = s .beta }
 
-pub wrench-mirror : {air air' rates rates' deflection deflection' : Vec3} (m : FixedWingModel) (w : Wash) (density : Float) → VecRel false air air' → VecRel true rates rates' → VecRel true deflection deflection' → AeroRel (wrenchOf m air rates deflection w density) (wrenchOf m air' rates' deflection' w density)
-unfolding wrenchOf
+pub wrench-mirror : {air air' rates rates' deflection deflection' : Vec3} (m : FixedWingModel) (w : Wash) (density : Float) → VecRel false air air' → VecRel true rates rates' → VecRel true deflection deflection' → AeroRel (aeroWrench m air rates deflection w density) (aeroWrench m air' rates' deflection' w density)
+unfolding aeroWrench
 wrench-mirror {air} m w density h k l =
     rw (norm-is h, flow-is m density h)
     (by-test AeroRel (lt nought (normOf air)) (lt nought (normOf air)) refl

@@ -17,7 +17,7 @@ use Rattle.vector.proofs.Range.{VecSized}
 use Rattle.vector.specs.Vector.{normOf}
 use Rattle.vector.specs.declared.Vec3.{Vec3}
 use Rattle.aero.specs.Coefficients.{sixty}
-use Rattle.aero.specs.Wrench.{flowAt, flowOf, movingAt, movingOf, sideslip, stillOf, surfaceWrench, washedSurfaces, withSurfaces, wrenchOf}
+use Rattle.aero.specs.Wrench.{flowAt, flowOf, movingAt, movingOf, sideslip, stillOf, surfaceWrench, washedSurfaces, withSurfaces, aeroWrench}
 use Rattle.aero.specs.declared.Aero.{Aero}
 
 -- what `expf` is given is from -60 to 60, unless it is a NaN
@@ -35,8 +35,8 @@ sideslip-finite v speed p q =
     let w : Within (neg one) one (clamp (neg one) one (v ⊘ speed)) = clamp-in (neg one) one (v ⊘ speed) (unfold neg in tt) tt (unfold le neg in tt) (div-number v speed p q) in
     sized-finite (asin-sized (clamp (neg one) one (v ⊘ speed)) (record { within = w }))
 
-pub wrench-angles : {n : ℕ} (m : FixedWingModel) (air rates d : Vec3) (w : Wash) (density : Float) → VecSized n air → Angles (wrenchOf m air rates d w density)
-unfolding wrenchOf movingOf movingAt withSurfaces flowOf flowAt stillOf washedSurfaces surfaceWrench
+pub wrench-angles : {n : ℕ} (m : FixedWingModel) (air rates d : Vec3) (w : Wash) (density : Float) → VecSized n air → Angles (aeroWrench m air rates d w density)
+unfolding aeroWrench movingOf movingAt withSurfaces flowOf flowAt stillOf washedSurfaces surfaceWrench
 wrench-angles m air rates d w density s = go (lt nought (normOf air)) (λ t. t)
   where
     go : (b : Bool) → (T b → T (lt nought (normOf air)))

@@ -164,8 +164,8 @@ stillOf m rates d w density =
     }
 
 -- where V is not above 0, or a NaN, the air is still: alpha and beta are 0
-unfoldable pub wrenchOf : FixedWingModel → Vec3 → Vec3 → Vec3 → Wash → Float → Aero
-wrenchOf m air rates d w density =
+unfoldable pub aeroWrench : FixedWingModel → Vec3 → Vec3 → Vec3 → Wash → Float → Aero
+aeroWrench m air rates d w density =
     cond (lt nought (normOf air))
     (movingOf m (normOf air) (flowOf m air density) (sideslip (air .y) (normOf air)) rates d w density)
     (stillOf m rates d w density)

@@ -50,7 +50,7 @@ pub fn wrench(
     powers: &[f32; POWER_COUNT],
 ) -> Aero
     requires { ⌜ now powers ≡ powersOfTwo ⌝ }
-    ensures { λ r. ⌜ r ≡ Wrench.wrenchOf model «air_mps» «rates_radps» «deflection_rad» wash «density_kgpm3» ⌝ }
+    ensures { λ r. ⌜ r ≡ Wrench.aeroWrench model «air_mps» «rates_radps» «deflection_rad» wash «density_kgpm3» ⌝ }
 {
     let speed_mps = air_mps.norm();
     if speed_mps > 0.0 {

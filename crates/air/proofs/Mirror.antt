@@ -7,10 +7,10 @@ use Rattle.float.proofs.Mirror.{exact, r-add, r-cond, r-div, r-le, r-mul, r-sam
 use Rattle.float.specs.Notation.{rounded}
 use Rattle.float.specs.Same.{Rel}
 use Rattle.air.proofs.Range.{density-nonzero}
-use Rattle.air.specs.Density.{between, densityAt, densityOf, heightOf, lastRow, rowFrom}
+use Rattle.air.specs.Density.{between, densityAt, densityOf, heightOf, lastRow, rowDownFrom}
 
-row-is : {h h' : Float} (n : ℕ) → Rel false h h' → rowFrom n h' ≡ rowFrom n h
-unfolding rowFrom
+row-is : {h h' : Float} (n : ℕ) → Rel false h h' → rowDownFrom n h' ≡ rowDownFrom n h
+unfolding rowDownFrom
 row-is zero r = refl
 row-is (suc n) r = rw (r-le (r-same (heightOf (suc n))) r, row-is n r)
 
@@ -22,7 +22,7 @@ density-same : {h h' : Float} → Rel false h h' → Rel false (densityAt h) (de
 unfolding densityAt
 density-same {h} {h'} r =
     r-cond (le h (heightOf 0)) (le h' (heightOf 0)) (r-le r (r-same (heightOf 0))) (r-same (densityOf 0))
-    (r-cond (le (heightOf lastRow) h) (le (heightOf lastRow) h') (r-le (r-same (heightOf lastRow)) r) (r-same (densityOf lastRow)) (rw (row-is lastRow r) (between-same (rowFrom lastRow h) r)))
+    (r-cond (le (heightOf lastRow) h) (le (heightOf lastRow) h') (r-le (r-same (heightOf lastRow)) r) (r-same (densityOf lastRow)) (rw (row-is lastRow r) (between-same (rowDownFrom lastRow h) r)))
 
 pub density-is : {h h' : Float} → Rel false h h' → densityAt h' ≡ densityAt h
 density-is {h} r = exact (density-same r) (density-nonzero h)

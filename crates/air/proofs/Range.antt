@@ -20,7 +20,7 @@ use Rattle.float.specs.Interval.{Within}
 use Rattle.float.specs.Notation.{_⊖_, _⊗_, _⊘_, nought, one, rounded}
 use Rattle.float.specs.Same.{flip}
 use Rattle.air.proofs.Rows.{between-ends, densities-fall, height-finite, heights-climb, over-row, rise, row-inside, step, under-next}
-use Rattle.air.specs.Density.{between, densities, densityAt, densityOf, heightOf, lastRow, rowCount, rowFrom, tenThousandths}
+use Rattle.air.specs.Density.{between, densities, densityAt, densityOf, heightOf, lastRow, rowCount, rowDownFrom, tenThousandths}
 
 -- ---- within one step the density falls
 module _ (i : ℕ) (l : i < lastRow) where
@@ -125,9 +125,9 @@ where-is h p = go (le h (heightOf 0)) (le (heightOf lastRow) h) refl refl
     go false false e f =
         let w = between-ends h p e f in
         inr (inr (record {
-          row = rowFrom lastRow h;
+          row = rowDownFrom lastRow h;
           inside = row-inside h w;
-          on = record { over = over-row h w; under = lt→le h (heightOf (suc (rowFrom lastRow h))) (under-next h w) };
+          on = record { over = over-row h w; under = lt→le h (heightOf (suc (rowDownFrom lastRow h))) (under-next h w) };
           over = w .above;
           under = under-next h w;
           is = rw (e, f);
@@ -197,7 +197,7 @@ rowTests i = le (densityAt (heightOf i)) (densityOf i) ∷ le (densityOf i) (den
 pub at-row : (i : ℕ) → i < rowCount → All (rowTests i)
 at-row i l =
     all→ (rowTests i)
-    (everyBelow→ (λ (i : ℕ). allb (rowTests i)) rowCount (unfold everyBelow densityAt rowFrom between densityOf densities tenThousandths heightOf ofInt add sub mul div round le in tt) i l)
+    (everyBelow→ (λ (i : ℕ). allb (rowTests i)) rowCount (unfold everyBelow densityAt rowDownFrom between densityOf densities tenThousandths heightOf ofInt add sub mul div round le in tt) i l)
 
 pub between-rows : (i : ℕ) (h : Float) → i < lastRow → T (le (heightOf i) h) → T (le h (heightOf (suc i))) → Within (densityOf (suc i)) (densityOf i) (densityAt h)
 between-rows i h l a b = record {
@@ -222,7 +222,7 @@ density-in h p = in-by h (where-is h p)
 
 -- ---- a NaN gives a NaN
 pub density-nan : densityAt nan ≡ nan
-unfolding densityAt rowFrom between le add sub mul div densityOf densities tenThousandths heightOf ofInt round
+unfolding densityAt rowDownFrom between le add sub mul div densityOf densities tenThousandths heightOf ofInt round
 density-nan = refl
 
 -- so the density is never a zero
@@ -251,7 +251,7 @@ unfolding round
 sea-level = refl
 
 at-zero : (s : Bool) → densityAt (flip s nought) ≡ fin false 10276045 (negsuc 22)
-unfolding densityAt rowFrom between le add sub mul div neg densityOf densities tenThousandths heightOf ofInt round
+unfolding densityAt rowDownFrom between le add sub mul div neg densityOf densities tenThousandths heightOf ofInt round
 at-zero false = refl
 at-zero true = refl
 

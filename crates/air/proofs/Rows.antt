@@ -22,7 +22,7 @@ use Rattle.float.specs.Interval.{Within}
 use Rattle.float.specs.Lists.{listFrom, listOf}
 use Rattle.float.specs.Notation.{_⊕_, _⊖_, _⊗_, _⊘_, nought, one, rounded}
 use Rattle.air.specs.Contracts.{Inside}
-use Rattle.air.specs.Density.{between, densities, densityOf, heightOf, lastRow, rowCount, rowFrom, tenThousandths}
+use Rattle.air.specs.Density.{between, densities, densityOf, heightOf, lastRow, rowCount, rowDownFrom, tenThousandths}
 
 -- ---- the heights, as the code makes them
 heights : listOf (λ (i : ℕ). ofInt binary32 (pos (i * 100)) ⊖ rounded 1000 1) rowCount ≡ listOf heightOf rowCount
@@ -111,27 +111,27 @@ pub densities-fall : (i j : ℕ) → i ≤ j → j < rowCount → T (le (density
 densities-fall = in-order (λ (i j : ℕ). T (le (densityOf j) (densityOf i))) (λ i l. le-self (densityOf i) (density-finite i l)) (λ i j a l h. le-trans-float (densityOf (suc j)) (densityOf j) (densityOf i) (lt→le (densityOf (suc j)) (densityOf j) (row-falls j l)) h)
 
 -- ---- the row of a height
-pub row-most : (n : ℕ) (h : Float) → rowFrom n h ≤ n
-unfolding rowFrom
+pub row-most : (n : ℕ) (h : Float) → rowDownFrom n h ≤ n
+unfolding rowDownFrom
 row-most zero h = le-refl 0
-row-most (suc n) h = by-cases (λ (i : ℕ). i ≤ suc n) (le (heightOf (suc n)) h) (λ e. le-refl (suc n)) (up (rowFrom n h) n (row-most n h))
+row-most (suc n) h = by-cases (λ (i : ℕ). i ≤ suc n) (le (heightOf (suc n)) h) (λ e. le-refl (suc n)) (up (rowDownFrom n h) n (row-most n h))
   where
     up : (a n : ℕ) → a ≤ n → a ≤ suc n
     up a n l = omega arith
 
 -- it is not above the height
-pub row-below : (n : ℕ) (h : Float) → T (le (heightOf 0) h) → T (le (heightOf (rowFrom n h)) h)
-unfolding rowFrom
+pub row-below : (n : ℕ) (h : Float) → T (le (heightOf 0) h) → T (le (heightOf (rowDownFrom n h)) h)
+unfolding rowDownFrom
 row-below zero h b = b
 row-below (suc n) h b = by-cases (λ (i : ℕ). T (le (heightOf i) h)) (le (heightOf (suc n)) h) (λ e. subst T (sym e) tt) (row-below n h b)
 
 -- and the next one is
-pub row-above : (n : ℕ) (h : Float) → n < rowCount → T (finite h) → T (lt h (heightOf (suc n))) → T (lt h (heightOf (suc (rowFrom n h))))
-unfolding rowFrom
+pub row-above : (n : ℕ) (h : Float) → n < rowCount → T (finite h) → T (lt h (heightOf (suc n))) → T (lt h (heightOf (suc (rowDownFrom n h))))
+unfolding rowDownFrom
 row-above zero h l p b = b
 row-above (suc n) h l p b = go (le (heightOf (suc n)) h) refl (row-above n h (omega (arith, l)) p)
   where
-    go : (t : Bool) → le (heightOf (suc n)) h ≡ t → (T (lt h (heightOf (suc n))) → T (lt h (heightOf (suc (rowFrom n h))))) → T (lt h (heightOf (suc (cond t (suc n) (rowFrom n h)))))
+    go : (t : Bool) → le (heightOf (suc n)) h ≡ t → (T (lt h (heightOf (suc n))) → T (lt h (heightOf (suc (rowDownFrom n h))))) → T (lt h (heightOf (suc (cond t (suc n) (rowDownFrom n h)))))
     go true e lower = b
     go false e lower =
         lower
@@ -205,11 +205,11 @@ row-in i l = let both = all→ (tests i) (everyBelow→ (λ (i : ℕ). allb (tes
 pub record Guessed (h : Float) (z : ℤ) : Type 0 where
   pub k : ℕ
   pub is : z ≡ pos k
-  pub at-least : rowFrom lastRow h ≤ k
-  pub at-most : k ≤ suc (rowFrom lastRow h)
+  pub at-least : rowDownFrom lastRow h ≤ k
+  pub at-most : k ≤ suc (rowDownFrom lastRow h)
 
-guessed-from : (h : Float) (z : ℤ) → T (leZ (pos (rowFrom lastRow h)) z) → T (leZ z (pos (suc (rowFrom lastRow h)))) → Guessed h z
-guessed-from h (pos k) a b = record { k = k; is = refl; at-least = leb→le (rowFrom lastRow h) k a; at-most = leb→le k (suc (rowFrom lastRow h)) b }
+guessed-from : (h : Float) (z : ℤ) → T (leZ (pos (rowDownFrom lastRow h)) z) → T (leZ z (pos (suc (rowDownFrom lastRow h)))) → Guessed h z
+guessed-from h (pos k) a b = record { k = k; is = refl; at-least = leb→le (rowDownFrom lastRow h) k a; at-most = leb→le k (suc (rowDownFrom lastRow h)) b }
 guessed-from h (negsuc k) a b = absurd a
 
 beyond-top : T (finite (heightOf rowCount)) × T (le (heightOf lastRow) (heightOf rowCount))
@@ -218,7 +218,7 @@ beyond-top = (tt, tt)
 
 module _ (h : Float) (in-table : Inside h) where
   abbrev i : ℕ
-  i = rowFrom lastRow h
+  i = rowDownFrom lastRow h
 
   pub inside-table : WithinTable h
   inside-table = record { at-least = lt→le (heightOf 0) h (in-table .above); at-most = lt→le h (heightOf lastRow) (in-table .below) }

@@ -91,9 +91,9 @@ unfoldable pub heightOf : ℕ → Float
 heightOf i = ofInt binary32 (minus (100 * i) 1000)
 
 -- the highest row from i down that is not above the height; row 0 where none is
-unfoldable pub rowFrom : ℕ → Float → ℕ
-rowFrom zero h = 0
-rowFrom (suc i) h = cond (le (heightOf (suc i)) h) (suc i) (rowFrom i h)
+unfoldable pub rowDownFrom : ℕ → Float → ℕ
+rowDownFrom zero h = 0
+rowDownFrom (suc i) h = cond (le (heightOf (suc i)) h) (suc i) (rowDownFrom i h)
 
 -- between row i and the next
 unfoldable pub between : ℕ → Float → Float
@@ -103,4 +103,4 @@ between i h = densityOf i ⊕ (densityOf (suc i) ⊖ densityOf i) ⊗ ((h ⊖ he
 unfoldable pub densityAt : Float → Float
 densityAt h =
     cond (le h (heightOf 0)) (densityOf 0)
-    (cond (le (heightOf lastRow) h) (densityOf lastRow) (between (rowFrom lastRow h) h))
+    (cond (le (heightOf lastRow) h) (densityOf lastRow) (between (rowDownFrom lastRow h) h))

@@ -117,7 +117,7 @@ fn row_height(row: u32) -> f32
 // that the first guess may be one row too high.
 fn within_table(height_m: f32, densities: &[f32; ROW_COUNT]) -> f32
     requires { ⌜ Contracts.Inside «height_m» ⌝ ∗ ⌜ now densities ≡ Density.densities ⌝ }
-    ensures { λ r. ⌜ r ≡ Density.between (Density.rowFrom Density.lastRow «height_m») «height_m» ⌝ }
+    ensures { λ r. ⌜ r ≡ Density.between (Density.rowDownFrom Density.lastRow «height_m») «height_m» ⌝ }
 {
     let guess = float::truncated((height_m + 1000.0) / 100.0) as u32;
     let row_m = row_height(guess);

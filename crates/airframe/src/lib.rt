@@ -6,7 +6,7 @@ ghost use Rattle.airframe.specs.Acceptance as Acceptance;
 ghost use Rattle.airframe.specs.Contracts as Contracts;
 ghost use Rattle.airframe.specs.Numbers as Numbers;
 ghost use Rattle.airframe.specs.Reflection as Reflection;
-ghost use Rattle.ordered.specs.Contracts.{allPass};
+ghost use Rattle.ordered.specs.Ordered.{allPass};
 ghost use Rattle.ordered.specs.Ordered.{firstFail};
 use fixed_wing::AeroCoefficients;
 use fixed_wing::FixedWingModel;

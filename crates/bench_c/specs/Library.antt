@@ -38,8 +38,8 @@ wrongLength = 1
 abbrev pub isDone : Answer → Bool
 isDone x = eqb (numberOf x) 0
 
-abbrev pub holds : {X : Type 0} → List X → ℕ → Bool
-holds xs n = eqb (length xs) n
+abbrev pub hasLength : {X : Type 0} → List X → ℕ → Bool
+hasLength xs n = eqb (length xs) n
 
 -- ---- reading and writing
 
@@ -52,7 +52,7 @@ pub record Filled : Type 0 where
 unfoldable pub prepare : List ℕ → List Float → Filled
 prepare block airframe =
     let x = readAirframeOf block in
-    cond (holds airframe airframeNumbersCount)
+    cond (hasLength airframe airframeNumbersCount)
     (record { reply = replyOf (x .answer); numbers = airframeNumbers (x .airframe) })
     (record { reply = wrongLength; numbers = airframe })
 
@@ -60,7 +60,7 @@ prepare block airframe =
 unfoldable pub readState : List ℕ → List Float → Filled
 readState block state =
     let x = readStateOf block in
-    cond (holds state stateNumbersCount)
+    cond (hasLength state stateNumbersCount)
     (record { reply = replyOf (x .answer); numbers = flightNumbers (x .flight) })
     (record { reply = wrongLength; numbers = state })
 
@@ -72,7 +72,7 @@ pub record Written : Type 0 where
 -- bench_write_state: a state's array into a block
 unfoldable pub writeState : List Float → List ℕ → Written
 writeState state block =
-    cond (holds state stateNumbersCount)
+    cond (hasLength state stateNumbersCount)
     (record { reply = replyOf (writeAnswer stateBytes block); block = writtenState block (flightIn state) })
     (record { reply = wrongLength; block = block })
 
@@ -80,14 +80,14 @@ writeState state block =
 unfoldable pub readTick : List ℕ → List Float → Filled
 readTick block t =
     let x = readTickOf block in
-    cond (holds t tickNumbersCount)
+    cond (hasLength t tickNumbersCount)
     (record { reply = replyOf (x .answer); numbers = tickNumbers (x .tick) })
     (record { reply = wrongLength; numbers = t })
 
 -- bench_write_tick: a tick's array into a block
 unfoldable pub writeTick : List Float → List ℕ → Written
 writeTick t block =
-    cond (holds t tickNumbersCount)
+    cond (hasLength t tickNumbersCount)
     (record { reply = replyOf (writeAnswer tickBytes block); block = writtenTick block (tickIn t) })
     (record { reply = wrongLength; block = block })
 
@@ -138,7 +138,7 @@ tick block state t report =
 -- bench_tick_prepared: with the airframe as its array
 unfoldable pub tickPrepared : List Float → List Float → List Float → List Float → TickOutcome
 tickPrepared airframe state t report =
-    cond (holds airframe airframeNumbersCount && tickLengths (length state) (length t) (length report))
+    cond (hasLength airframe airframeNumbersCount && tickLengths (length state) (length t) (length report))
     (tested state (tickOf (airframeIn airframe) (flightIn state) (tickIn t)))
     (untested state report)
 
@@ -189,7 +189,7 @@ pub record RunOutcome : Type 0 where
 unfoldable pub run : List ℕ → List Float → List ℕ → RunOutcome
 run block state trace =
     let r = ranBy (readAirframeOf block) (flightIn state) trace in
-    cond (holds state stateNumbersCount)
+    cond (hasLength state stateNumbersCount)
     (record { reply = replyOf (r .answer); state = stateAfterRun state r; accepted = r .accepted })
     (record { reply = wrongLength; state = state; accepted = 0 })
 

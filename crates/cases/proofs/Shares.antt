@@ -5,10 +5,8 @@ use Rattle.fixed_wing.specs.Falloff.{falloffShare, pitchSpeedShare}
 use Rattle.float.specs.Interval.{inside}
 use Rattle.float.specs.Notation.{atLeastZero}
 use Rattle.float.specs.Same.{num}
-use Rattle.libm.specs.Exp as Exp
-use Rattle.libm.specs.Exp.{core, expOf, horner, near-down, near-up, poly, rest, turns}
-use Rattle.libm.specs.Log as Log
-use Rattle.libm.specs.Log.{exponentOf, lnNear, lnOf, lnOfParts, mantissaOf, places, ratio}
+use Rattle.libm.specs.Exp.{core, expOf, expSeries, horner, near-down, near-up, poly, rest, turns}
+use Rattle.libm.specs.Log.{exponentOf, lnNear, lnOf, lnOfParts, logSeries, mantissaOf, places, ratio}
 use Rattle.libm.specs.Pow.{atMostOne, powOf}
 use Rattle.libm.specs.Sqrt.{sqrtOf}
 use Rattle.motors.specs.Motor.{thrustFraction}
@@ -16,5 +14,5 @@ use Rattle.cases.specs.Shares.{shares}
 use Rattle.cases.specs.Table.{allHold, holds}
 
 pub shares-hold : T (allHold shares)
-unfolding allHold holds shares num toBits thrustFraction falloffShare pitchSpeedShare atLeastZero powOf atMostOne inside expOf core poly Exp.series horner rest turns near-up near-down lnOf lnOfParts lnNear Log.series ratio mantissaOf exponentOf places sqrtOf add sub mul div neg lt le eq ne round ofBits ofInt toSigned size
+unfolding allHold holds shares num toBits thrustFraction falloffShare pitchSpeedShare atLeastZero powOf atMostOne inside expOf core poly expSeries horner rest turns near-up near-down lnOf lnOfParts lnNear logSeries ratio mantissaOf exponentOf places sqrtOf add sub mul div neg lt le eq ne round ofBits ofInt toSigned size
 shares-hold = tt

@@ -15,7 +15,7 @@ use Rattle.float.specs.Interval.{Within}
 use Rattle.float.specs.Notation.{_⊕_, _⊖_, clamp, nought, one, rounded, sizeOf}
 use Rattle.float.specs.Same.{num}
 use Rattle.lag.specs.Lag.{approachOf, approachSaturated, saturated}
-use Rattle.libm.specs.Exp.{core, expOf, horner, near-down, near-up, poly, rest, series, turns}
+use Rattle.libm.specs.Exp.{core, expOf, expSeries, horner, near-down, near-up, poly, rest, turns}
 use Rattle.cases.specs.Wide.{BluntBlend, FullThrottleStays}
 
 -- ---- a zero times a finite number is a zero
@@ -45,7 +45,7 @@ full-throttle-stays factor w = record { same = rw (zero-times binary32 false fac
 
 -- ---- sharpness 0
 exponent-none : (t : Bool) → exponent (fin t 0 (pos 0)) ≡ one
-unfolding exponent clamp expOf core poly series horner rest turns near-up near-down sizeOf add sub mul div neg lt le ne round ofBits ofInt toSigned
+unfolding exponent clamp expOf core poly expSeries horner rest turns near-up near-down sizeOf add sub mul div neg lt le ne round ofBits ofInt toSigned
 exponent-none true = refl
 exponent-none false = refl
 

@@ -10,7 +10,7 @@ use native.Mathlib.Omega.{arith}
 use Rattle.ordered.proofs.Ordered.{pass-none, pass-some, some-eqb}
 use Rattle.float.specs.Interval.{inside}
 use Rattle.float.specs.Notation.{minusOne, nought, one, rounded}
-use Rattle.ordered.specs.Contracts.{allPass}
+use Rattle.ordered.specs.Ordered.{allPass}
 use Rattle.ordered.specs.Ordered.{after, firstFail, orElse}
 use Rattle.vector.specs.Rotation.{quatNorm}
 use Rattle.vector.specs.Vector.{vecInside}

@@ -3,7 +3,7 @@
 -- NaN is outside, -0 is 0. Definitions only.
 use Prim.Native.Nat.{ℕ}
 use lib.Dec.{eqb}
-use lib.Ieee.{Float, low, neg}
+use lib.Ieee.{Float, neg}
 use lib.ListN.{replicate}
 use mathlib.Core.Bool.{Bool, cond}
 use mathlib.Core.List.{List, [], _∷_}

@@ -1,7 +1,7 @@
 // The flight state, body and running values in one record, and what a tick is given.
 ghost use mathlib.Core.Path.{_≡_};
 ghost use Prim.Native.Nat.{_≤_};
-ghost use Rattle.ordered.specs.Contracts.{allPass};
+ghost use Rattle.ordered.specs.Ordered.{allPass};
 ghost use Rattle.flight.specs.Envelope as Envelope;
 ghost use Rattle.flight.specs.Reflection as Reflection;
 ghost use Rattle.flight.specs.State as State;

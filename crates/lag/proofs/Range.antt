@@ -23,10 +23,10 @@ use Rattle.float.proofs.Rounding.{Parts, Rounds, add-mono, add-mono-r, add-roun
 use Rattle.float.proofs.Sign.{neg-neg, round-minus, round-over}
 use Rattle.float.proofs.Zeros.{div-neg-left}
 use Rattle.float.specs.Interval.{Within}
-use Rattle.float.specs.Notation.{_⊖_, _⊗_, _⊘_, clamp, minusOne, nought, one}
+use Rattle.float.specs.Notation.{_⊖_, _⊗_, _⊘_, clamp, minusOne, nought, one, rounded}
 use Rattle.libm.proofs.Range.{exp-in}
 use Rattle.libm.specs.Exp.{expOf, lowest}
-use Rattle.lag.specs.Lag.{approachOf, approachSaturated, constantLeast, constantMost, factorOf, saturated, stepLeast, stepMost}
+use Rattle.lag.specs.Lag.{approachOf, approachSaturated, factorOf, saturated, stepLeast, stepMost}
 
 -- ---- v + z at most 1, z below 2: then v + z', where z' is z rounded, rounds to 1 at most, since z' is above z by 2 ^ -24 at most
 final : (P N w D Y Z g k c K : ℕ) → 0 < c → 0 < K → Y * (K * 8388608) ≡ g * D → g * c * 2 ≤ k * (K * 8388608) * 2 + c * K → P * c + k * w ≤ w * c + N * c
@@ -247,7 +247,13 @@ pub approach-fits : (v t a : Float) → T (fits binary32 (approachOf v t a))
 unfolding approachOf
 approach-fits v t a = add-fits binary32 v ((t ⊖ v) ⊗ a)
 
--- ---- the factor
+-- ---- the factor, for an accepted step and a time constant from 0.001 s to 10 s
+abbrev pub constantLeast : Float
+constantLeast = rounded 1 1000
+
+abbrev pub constantMost : Float
+constantMost = rounded 10 1
+
 pub factor-in : (h tau : Float) → Within stepLeast stepMost h → Within constantLeast constantMost tau → Within nought one (factorOf h tau)
 unfolding factorOf sub round
 factor-in h tau w v =

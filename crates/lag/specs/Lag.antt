@@ -19,15 +19,9 @@ saturated low high neutral command = cond (ne command command) neutral (clamp lo
 unfoldable pub approachSaturated : Float → Float → Float → Float → Float → Float → Float
 approachSaturated value command low high neutral alpha = approachOf value (saturated low high neutral command) alpha
 
--- where an accepted tick's step and an accepted time constant lie: 1/1024..0.02 and 0.001..10
+-- where an accepted tick's step lies: 1/1024..0.02
 abbrev pub stepLeast : Float
 stepLeast = rounded 1 1024
 
 abbrev pub stepMost : Float
 stepMost = rounded 2 100
-
-abbrev pub constantLeast : Float
-constantLeast = rounded 1 1000
-
-abbrev pub constantMost : Float
-constantMost = rounded 10 1

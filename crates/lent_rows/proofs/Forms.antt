@@ -11,10 +11,10 @@ use native.Mathlib.Omega.{arith}
 use Rattle.mixers.specs.Rows.{liveOf, noRow, putTo}
 use Rattle.mixers.specs.declared.MixRow.{MixRow}
 use Rattle.mixers.specs.declared.Rows.{Rows}
-use Rattle.motors.specs.Motor.{groupOf, liftGroupOf, putLiftOf as liftPut, putOf as motorPut, undriven}
+use Rattle.motors.specs.Motor.{groupOf, liftGroupOf, putLiftRow, putMotorRow, undriven}
 use Rattle.motors.specs.declared.MotorLayout.{MotorLayout}
-use Rattle.surfaces.specs.Surface.{factorsOf, noFactors, putOf as servoPut, surfacesOf}
-use Rattle.lent_rows.specs.Mixing.{mixFrom, mixOf, putOf, startOf, surfacesIn}
+use Rattle.surfaces.specs.Surface.{factorsOf, noFactors, putServoRow, surfacesOf}
+use Rattle.lent_rows.specs.Mixing.{mixFrom, mixOf, putRow, startOf, surfacesIn}
 use Rattle.lent_rows.specs.declared.Mix.{Mix}
 
 -- the first row of a list may be put before the others
@@ -24,21 +24,21 @@ put-first put x row rows zero = refl
 put-first put x row rows (suc n) = ap (λ z. put z (getD rows n noRow)) (put-first put x row rows n)
 
 -- so the first n rows as a list are the first n by number
-pub list-as-array : (m : Mix) (rows : List MixRow) (n : ℕ) → n ≤ length rows → mixFrom m (take n rows) ≡ putTo putOf m rows n
+pub list-as-array : (m : Mix) (rows : List MixRow) (n : ℕ) → n ≤ length rows → mixFrom m (take n rows) ≡ putTo putRow m rows n
 unfolding mixFrom putTo
 list-as-array m rows zero l = refl
 list-as-array m [] (suc n) l = absurd (not-suc-le-zero l)
-list-as-array m (row ∷ rows) (suc n) l = list-as-array (putOf m row) rows n (le-of-suc-le-suc l) ∙ sym (put-first putOf m row rows n)
+list-as-array m (row ∷ rows) (suc n) l = list-as-array (putRow m row) rows n (le-of-suc-le-suc l) ∙ sym (put-first putRow m row rows n)
 
 -- a mix is filled part by part: each part sees the rows alone
 module _ (l : MotorLayout) (tau : Float) (l' : MotorLayout) (tau' : Float) where
   abbrev parts : List MixRow → ℕ → Mix
-  parts rows n = record { motors = putTo motorPut (undriven l tau) rows n; lift = putTo liftPut (undriven l' tau') rows n; factors = putTo servoPut noFactors rows n }
+  parts rows n = record { motors = putTo putMotorRow (undriven l tau) rows n; lift = putTo putLiftRow (undriven l' tau') rows n; factors = putTo putServoRow noFactors rows n }
 
-  by-parts : (rows : List MixRow) (n : ℕ) → putTo putOf (startOf l tau l' tau') rows n ≡ parts rows n
-  unfolding putTo startOf putOf
+  by-parts : (rows : List MixRow) (n : ℕ) → putTo putRow (startOf l tau l' tau') rows n ≡ parts rows n
+  unfolding putTo startOf putRow
   by-parts rows zero = refl
-  by-parts rows (suc n) = ap (λ (m : Mix). putOf m (getD rows n noRow)) (by-parts rows n)
+  by-parts rows (suc n) = ap (λ (m : Mix). putRow m (getD rows n noRow)) (by-parts rows n)
 
 live-at : (rows : Rows) (t : Bool) → ltb (rows .count) 16 ≡ t → cond t (rows .count) 16 ≤ 16
 live-at rows true e = omega (arith, ltb→lt (rows .count) 16 (subst Holds (sym e) tt))

@@ -6,7 +6,7 @@ use mathlib.Core.Path.{_≡_, ap, refl}
 use native.Mathlib.Nat.{le-of-suc-le-suc, not-suc-le-zero}
 use Rattle.mixers.specs.Rows.{noRow}
 use Rattle.mixers.specs.declared.MixRow.{MixRow}
-use Rattle.lent_rows.specs.Mixing.{mixFrom, putOf}
+use Rattle.lent_rows.specs.Mixing.{mixFrom, putRow}
 use Rattle.lent_rows.specs.declared.Mix.{Mix}
 
 -- one row is taken off what is left of the list
@@ -16,7 +16,7 @@ drop-one (row ∷ rows) zero l = refl
 drop-one (row ∷ rows) (suc i) l = drop-one rows i (le-of-suc-le-suc l)
 
 -- so what is left of the walk at i is one row put, and what is left after it
-pub mix-step : (rows : List MixRow) (i : ℕ) (m : Mix) → i < length rows → mixFrom m (drop i rows) ≡ mixFrom (putOf m (getD rows i noRow)) (drop (suc i) rows)
+pub mix-step : (rows : List MixRow) (i : ℕ) (m : Mix) → i < length rows → mixFrom m (drop i rows) ≡ mixFrom (putRow m (getD rows i noRow)) (drop (suc i) rows)
 unfolding mixFrom
 mix-step rows i m l = ap (mixFrom m) (drop-one rows i l)
 

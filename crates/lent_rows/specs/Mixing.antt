@@ -7,9 +7,9 @@ use Rattle.float.specs.Notation.{nought}
 use Rattle.mixers.specs.Rows.{liveOf}
 use Rattle.mixers.specs.declared.MixRow.{MixRow}
 use Rattle.mixers.specs.declared.Rows.{Rows}
-use Rattle.motors.specs.Motor.{putLiftOf as liftPut, putOf as motorPut, undriven}
+use Rattle.motors.specs.Motor.{putLiftRow, putMotorRow, undriven}
 use Rattle.motors.specs.declared.MotorLayout.{MotorLayout}
-use Rattle.surfaces.specs.Surface.{noFactors, putOf as servoPut, weighed}
+use Rattle.surfaces.specs.Surface.{noFactors, putServoRow, weighed}
 use Rattle.surfaces.specs.declared.Surfaces.{Surfaces}
 use Rattle.lent_rows.specs.declared.Mix.{Mix}
 
@@ -18,13 +18,13 @@ unfoldable pub startOf : MotorLayout → Float → MotorLayout → Float → Mix
 startOf l tau l' tau' = record { motors = undriven l tau; lift = undriven l' tau'; factors = noFactors }
 
 -- one row: a motor's goes to the motors, a lift rotor's to the lift rotors, a servo's to the factors (01, modules 2 and 3; 02, 5)
-unfoldable pub putOf : Mix → MixRow → Mix
-putOf m row = record { motors = motorPut (m .motors) row; lift = liftPut (m .lift) row; factors = servoPut (m .factors) row }
+unfoldable pub putRow : Mix → MixRow → Mix
+putRow m row = record { motors = putMotorRow (m .motors) row; lift = putLiftRow (m .lift) row; factors = putServoRow (m .factors) row }
 
 -- the rows of a list in their order: of several for one slot the last counts
 unfoldable pub mixFrom : Mix → List MixRow → Mix
 mixFrom m [] = m
-mixFrom m (row ∷ rows) = mixFrom (putOf m row) rows
+mixFrom m (row ∷ rows) = mixFrom (putRow m row) rows
 
 -- the rows of the array form, as a list
 unfoldable pub mixOf : Rows → MotorLayout → Float → MotorLayout → Float → Mix

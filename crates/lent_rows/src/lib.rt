@@ -6,7 +6,7 @@ ghost use lib.ListN.{take};
 ghost use Rattle.mixers.specs.Rows.{mostRows};
 ghost use Rattle.motors.specs.Motor.{groupOf, liftGroupOf};
 ghost use Rattle.surfaces.specs.Surface.{surfacesOf};
-ghost use Rattle.lent_rows.specs.Mixing.{startOf, putOf, mixFrom, mixOf, surfacesIn};
+ghost use Rattle.lent_rows.specs.Mixing.{startOf, putRow, mixFrom, mixOf, surfacesIn};
 use mixers::MOST_ROWS;
 use mixers::MixRow;
 use mixers::Rows;
@@ -47,7 +47,7 @@ impl Mix {
 
     // One row: a motor's or a lift rotor's torque or a servo's factors, in place of what an earlier row of its kind set.
     pub fn put(self, row: MixRow) -> Self
-        ensures { λ r. ⌜ r ≡ putOf self row ⌝ }
+        ensures { λ r. ⌜ r ≡ putRow self row ⌝ }
     {
         let motors = self.motors.put(row);
         let lift = self.lift.put_lift(row);

@@ -29,7 +29,7 @@ use Rattle.libm.proofs.Signs.{bits-finite, bits-pos}
 use Rattle.libm.proofs.Splits.{exponent-in, mantissa-in, split-exact, times-two-to, twice, up-to-one}
 use Rattle.libm.specs.Contracts.{Binary}
 use Rattle.libm.specs.Exp.{horner}
-use Rattle.libm.specs.Log.{exponentOf, least, ln2, lnNear, lnOf, lnOfParts, mantissaOf, places, ratio, series}
+use Rattle.libm.specs.Log.{exponentOf, least, ln2, lnNear, lnOf, lnOfParts, mantissaOf, places, ratio, logSeries}
 
 -- parts of 1
 abbrev quarter : Float
@@ -83,8 +83,8 @@ last-in z w =
     within-wider (add binary32 (rounded 1 7) nought) (add binary32 (rounded 1 7) (div binary32 sixteenth (rounded 9 1))) nought quarter (add binary32 (rounded 1 7) (div binary32 z (rounded 9 1))) (unfold le add round in tt) (unfold le add div round in tt)
     (add-in binary32 (rounded 1 7) nought (div binary32 sixteenth (rounded 9 1)) (div binary32 z (rounded 9 1)) tt tt (unfold div round in tt) q)
 
-log-series-in : (z : Float) → Within nought sixteenth z → Within one (fin false 21 (negsuc 3)) (series z)
-unfolding series horner round
+log-series-in : (z : Float) → Within nought sixteenth z → Within one (fin false 21 (negsuc 3)) (logSeries z)
+unfolding logSeries horner round
 log-series-in z w =
     let v = within-wider nought sixteenth minusHalf half z (unfold le in tt) (unfold le in tt) w in
     let q = add binary32 (rounded 1 7) (div binary32 z (rounded 9 1)) in
@@ -121,7 +121,7 @@ unfolding lnNear
 near-in m w =
     let s = ratio-in m w in
     let q = log-series-in (mul binary32 (ratio m) (ratio m)) (square-in (ratio m) s) in
-    unfold mul round in mul-in binary32 minusHalf half (mul binary32 two (ratio m)) (fin false 21 (negsuc 3)) (series (mul binary32 (ratio m) (ratio m))) tt tt tt (unfold le in tt) (unfold le in tt) (double-in (ratio m) s) (within-wider one (fin false 21 (negsuc 3)) nought (fin false 21 (negsuc 3)) (series (mul binary32 (ratio m) (ratio m))) (unfold le in tt) (unfold le in tt) q)
+    unfold mul round in mul-in binary32 minusHalf half (mul binary32 two (ratio m)) (fin false 21 (negsuc 3)) (logSeries (mul binary32 (ratio m) (ratio m))) tt tt tt (unfold le in tt) (unfold le in tt) (double-in (ratio m) s) (within-wider one (fin false 21 (negsuc 3)) nought (fin false 21 (negsuc 3)) (logSeries (mul binary32 (ratio m) (ratio m))) (unfold le in tt) (unfold le in tt) q)
 
 -- ---- a quotient by at most 2 of what is not above -2 * b is not above -b, for b = k * 2 ^ e
 quotient-below : (k : ℕ) (e : ℤ) (x y : Float) → T (finite x) → T (positive y) → T (le y two) → T (fits binary32 (fin true k e)) → T (le x (fin true (k * 2) e)) → T (le (div binary32 x y) (fin true k e))
@@ -155,10 +155,10 @@ near-below m b w p d o h =
     let q = log-series-in z (square-in (ratio m) s) in
     let r = within-finite minusQuarter quarter (ratio m) tt tt s in
     let x = within-finite minusHalf half (mul binary32 two (ratio m)) tt tt (double-in (ratio m) s) in
-    let y = within-finite one (fin false 21 (negsuc 3)) (series z) tt tt q in
-    le-trans-float (lnNear m) (mul binary32 (mul binary32 two b) (series z)) (mul binary32 (mul binary32 two b) one)
-    (mul-mono-l binary32 (mul binary32 two (ratio m)) (mul binary32 two b) (series z) x d y (le-trans-float nought one (series z) (unfold le in tt) (q .at-least)) (mul-mono-r binary32 two (ratio m) b tt r p (unfold le in tt) h))
-    (mul-anti-r binary32 (mul binary32 two b) (series z) one d y tt o (q .at-least))
+    let y = within-finite one (fin false 21 (negsuc 3)) (logSeries z) tt tt q in
+    le-trans-float (lnNear m) (mul binary32 (mul binary32 two b) (logSeries z)) (mul binary32 (mul binary32 two b) one)
+    (mul-mono-l binary32 (mul binary32 two (ratio m)) (mul binary32 two b) (logSeries z) x d y (le-trans-float nought one (logSeries z) (unfold le in tt) (q .at-least)) (mul-mono-r binary32 two (ratio m) b tt r p (unfold le in tt) h))
+    (mul-anti-r binary32 (mul binary32 two b) (logSeries z) one d y tt o (q .at-least))
 
 near-not-above : (m : Float) → Within least one m → T (le (lnNear m) (fin true 0 (pos 0)))
 unfolding mul round
@@ -278,7 +278,7 @@ ln-in x f p h = of-positive (λ (y : Float). T (fits binary32 y) → T (le y one
 
 -- ---- it is 0 at 1 only
 pub ln-one : lnOf one ≡ nought
-unfolding lnOf lnOfParts lnNear ratio series horner mantissaOf exponentOf places size lt add sub mul div ofInt round
+unfolding lnOf lnOfParts lnNear ratio logSeries horner mantissaOf exponentOf places size lt add sub mul div ofInt round
 ln-one = refl
 
 under-one : (w : ℕ) (e : ℤ) → T (fits binary32 (fin false (suc w) e)) → T (lt (fin false (suc w) e) one) → T (le (fin false (suc w) e) belowOne)

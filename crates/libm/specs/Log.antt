@@ -27,14 +27,14 @@ exponentOf (inf s) = pos 0
 exponentOf (fin s w e) = e +ℤ pos (places w)
 
 -- ---- ln m is 2 · s · (1 + z · (1/3 + z · (1/5 + z · (1/7 + z/9)))) with s = (m - 1) / (m + 1) and z = s · s
-unfoldable pub series : Float → Float
-series z = horner z one (horner z (rounded 1 3) (horner z (rounded 1 5) (rounded 1 7 ⊕ z ⊘ rounded 9 1)))
+unfoldable pub logSeries : Float → Float
+logSeries z = horner z one (horner z (rounded 1 3) (horner z (rounded 1 5) (rounded 1 7 ⊕ z ⊘ rounded 9 1)))
 
 unfoldable pub ratio : Float → Float
 ratio m = (m ⊖ one) ⊘ (m ⊕ one)
 
 unfoldable pub lnNear : Float → Float
-lnNear m = two ⊗ ratio m ⊗ series (ratio m ⊗ ratio m)
+lnNear m = two ⊗ ratio m ⊗ logSeries (ratio m ⊗ ratio m)
 
 -- ---- and n times ln 2 is added
 abbrev pub ln2 : Float

@@ -10,7 +10,7 @@ use Rattle.body.specs.declared.Body.{Body}
 use Rattle.flight.specs.Reflection.{reflectFlight}
 use Rattle.flight.specs.State.{bodyOf}
 use Rattle.flight.specs.declared.Flight.{Flight}
-use Rattle.ordered.specs.Contracts.{allPass}
+use Rattle.ordered.specs.Ordered.{allPass}
 use Rattle.mixers.specs.Slots.{at}
 use Rattle.vector.specs.declared.Quaternion.{Quaternion}
 use Rattle.vector.specs.declared.Vec3.{Vec3}

@@ -1,6 +1,6 @@
 // Whether two ticks mirror each other, as numbers: zeros alike, NaNs alike.
 ghost use mathlib.Core.Path.{_≡_};
-ghost use Rattle.ordered.specs.Contracts.{allPass};
+ghost use Rattle.ordered.specs.Ordered.{allPass};
 ghost use Rattle.mirror.specs.Compare as Compare;
 use body::Body;
 use flight::Flight;

@@ -14,7 +14,7 @@ use Rattle.mixers.proofs.Sums.{sum-same, vec-sum-mirror}
 use Rattle.mixers.specs.Slots.{at}
 use Rattle.vector.proofs.Mirror.{scale-mirror}
 use Rattle.vector.specs.Reflection.{VecRel}
-use Rattle.motors.specs.Motor.{lagFactor, leftBy, slotThrust, slotTorque, spinAt, spinOf, thrustFraction, thrustOf, wrenchBy, wrenchOf, wrenchWith}
+use Rattle.motors.specs.Motor.{lagFactor, leftBy, slotThrust, slotTorque, spinAt, spinOf, thrustFraction, thrustOf, wrenchBy, wrenchWithoutFalloff, wrenchWith}
 use Rattle.motors.specs.Reflection.{GroupRel, reflectGroup}
 use Rattle.motors.specs.declared.MotorGroup.{MotorGroup}
 use Rattle.motors.specs.declared.MotorLayout.{MotorLayout}
@@ -64,6 +64,6 @@ unfolding wrenchWith
 pull-mirror {m} {u'} f h r = by-mirror h (λ share. ap (λ (l : MotorLayout). leftBy f l u' share) (h .group .layout) ∙ falloff-is f (m .group .layout .«max_thrust_n») share r)
 
 -- where nothing falls off
-pub full-pull-mirror : {m m' : Motors} → MotorsRel m m' → PullRel (wrenchOf m) (wrenchOf m')
-unfolding wrenchOf
+pub full-pull-mirror : {m m' : Motors} → MotorsRel m m' → PullRel (wrenchWithoutFalloff m) (wrenchWithoutFalloff m')
+unfolding wrenchWithoutFalloff
 full-pull-mirror h = by-mirror h (λ share. refl)

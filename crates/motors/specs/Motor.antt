@@ -1,6 +1,5 @@
 -- The motors (01, module 2), and the lift rotors, which are a second group of such (02, 5). Definitions only.
 use Prim.Native.Nat.{ℕ}
-use denote.Index.{row}
 use lib.Dec.{ltb}
 use lib.Ieee.{Float, eq}
 use lib.ListN.{replicate, set}
@@ -59,10 +58,10 @@ putMotor g k t = cond (ltb k 8)
     g
 
 -- the motors skip a servo's row and a lift rotor's
-unfoldable pub putAt : MotorGroup → Slot → Vec3 → MotorGroup
-putAt g (Motor k) t = putMotor g k t
-putAt g (Servo k) t = g
-putAt g (Lift k) t = g
+unfoldable pub putMotorAt : MotorGroup → Slot → Vec3 → MotorGroup
+putMotorAt g (Motor k) t = putMotor g k t
+putMotorAt g (Servo k) t = g
+putMotorAt g (Lift k) t = g
 
 -- the lift rotors skip all rows but their own (02, 5)
 unfoldable pub putLiftAt : MotorGroup → Slot → Vec3 → MotorGroup
@@ -70,18 +69,18 @@ putLiftAt g (Motor k) t = g
 putLiftAt g (Servo k) t = g
 putLiftAt g (Lift k) t = putMotor g k t
 
-unfoldable pub putOf : MotorGroup → MixRow → MotorGroup
-putOf g row = putAt g (row .slot) (torqueOf (g .layout) row)
+unfoldable pub putMotorRow : MotorGroup → MixRow → MotorGroup
+putMotorRow g row = putMotorAt g (row .slot) (torqueOf (g .layout) row)
 
-unfoldable pub putLiftOf : MotorGroup → MixRow → MotorGroup
-putLiftOf g row = putLiftAt g (row .slot) (torqueOf (g .layout) row)
+unfoldable pub putLiftRow : MotorGroup → MixRow → MotorGroup
+putLiftRow g row = putLiftAt g (row .slot) (torqueOf (g .layout) row)
 
 -- of several rows for one slot the last counts, within its own group only
 unfoldable pub groupOf : Rows → MotorLayout → Float → MotorGroup
-groupOf rows l tau = putTo putOf (undriven l tau) (rows .rows) (liveOf rows)
+groupOf rows l tau = putTo putMotorRow (undriven l tau) (rows .rows) (liveOf rows)
 
 unfoldable pub liftGroupOf : Rows → MotorLayout → Float → MotorGroup
-liftGroupOf rows l tau = putTo putLiftOf (undriven l tau) (rows .rows) (liveOf rows)
+liftGroupOf rows l tau = putTo putLiftRow (undriven l tau) (rows .rows) (liveOf rows)
 
 -- ---- f of module 2
 unfoldable pub lagFactor : MotorGroup → Float → Float
@@ -136,5 +135,5 @@ wrenchWith m falloff u = wrenchBy m (leftBy falloff (m .group .layout) u)
 abbrev pub whole : Float → Float
 whole share = one
 
-unfoldable pub wrenchOf : Motors → MotorWrench
-wrenchOf m = wrenchBy m whole
+unfoldable pub wrenchWithoutFalloff : Motors → MotorWrench
+wrenchWithoutFalloff m = wrenchBy m whole

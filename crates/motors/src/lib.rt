@@ -79,7 +79,7 @@ impl MotorGroup {
 
     // Takes in a row, where it is a motor's; of several rows for one slot the last counts.
     pub fn put(self, row: MixRow) -> Self
-        ensures { λ r. ⌜ r ≡ Motor.putOf self row ⌝ }
+        ensures { λ r. ⌜ r ≡ Motor.putMotorRow self row ⌝ }
     {
         let slot = row.slot;
         let layout = self.layout;
@@ -92,7 +92,7 @@ impl MotorGroup {
 
     // The same into a group of lift rotors.
     pub fn put_lift(self, row: MixRow) -> Self
-        ensures { λ r. ⌜ r ≡ Motor.putLiftOf self row ⌝ }
+        ensures { λ r. ⌜ r ≡ Motor.putLiftRow self row ⌝ }
     {
         let slot = row.slot;
         let layout = self.layout;
@@ -185,7 +185,7 @@ impl Motors {
     // The same where nothing falls off. A loop of its own, so that neither group is copied for the other's (docs/DECISIONS.md, 85).
     pub fn wrench(self, powers: &[f32; POWER_COUNT]) -> MotorWrench
         requires { ⌜ now powers ≡ powersOfTwo ⌝ }
-        ensures { λ r. ⌜ r ≡ Motor.wrenchOf self ⌝ }
+        ensures { λ r. ⌜ r ≡ Motor.wrenchWithoutFalloff self ⌝ }
     {
         let group = self.group;
         let running = self.running;

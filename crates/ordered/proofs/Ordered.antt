@@ -7,8 +7,7 @@ use mathlib.Core.Path.{_∙_, _≡_, ap, ap₂, refl, sym}
 use native.Mathlib.Nat.{eq-or-lt-of-le, suc-ne-zero, zero-add}
 use native.Mathlib.Numerals.{add-one}
 use native.Mathlib.Omega.{arith}
-use Rattle.ordered.specs.Contracts.{allPass}
-use Rattle.ordered.specs.Ordered.{after, firstFail, orElse}
+use Rattle.ordered.specs.Ordered.{after, allPass, firstFail, orElse}
 
 -- ---- a loop over the tests below n, at i
 pub from-start : (ok : ℕ → Bool) (n : ℕ) → firstFail ok 0 n ≡ firstFail ok 0 (n - 0)

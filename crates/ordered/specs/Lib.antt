@@ -1,3 +1,2 @@
 -- Tests in a row.
 pub mod Ordered
-pub mod Contracts

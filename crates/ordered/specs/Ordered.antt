@@ -1,7 +1,7 @@
 -- Tests in a row: the number of the first that fails, counted from 1; 0 where none does. Definitions only.
 use Prim.Native.Nat.{_+_, suc, zero, ℕ}
 use lib.Dec.{eqb}
-use mathlib.Core.Bool.{Bool, cond}
+use mathlib.Core.Bool.{Bool, cond, false, true}
 use mathlib.Core.List.{List, [], _∷_}
 
 -- the tests with the indexes from i, n of them
@@ -21,3 +21,8 @@ abbrev pub firstOf : List ℕ → ℕ
 firstOf [] = 0
 firstOf (a ∷ []) = a
 firstOf (a ∷ b ∷ more) = orElse a (firstOf (b ∷ more))
+
+-- whether the first n tests all pass
+unfoldable pub allPass : (ℕ → Bool) → ℕ → Bool
+allPass ok zero = true
+allPass ok (suc n) = cond (ok n) (allPass ok n) false

@@ -6,7 +6,7 @@ use mathlib.Core.List.{List}
 use mathlib.Core.Path.{_≡_}
 use Rattle.body.specs.declared.Wrench.{Wrench}
 use Rattle.float.specs.Notation.{_⊗_, nought, one}
-use Rattle.motors.specs.Motor.{spinOf, undriven, wrenchOf, zeroLayout}
+use Rattle.motors.specs.Motor.{spinOf, undriven, wrenchWithoutFalloff, zeroLayout}
 use Rattle.motors.specs.Reflection.{GroupRel, reflectGroup}
 use Rattle.motors.specs.declared.MotorWrench.{MotorWrench}
 use Rattle.motors.specs.declared.Motors.{Motors}
@@ -35,7 +35,7 @@ unfoldable pub liftBy : Float → MotorWrench → Vec3 → Wrench
 liftBy c pull air = record { «force_n» = liftForce c (pull .«thrust_n») air; «torque_nm» = pull .«torque_nm» }
 
 unfoldable pub liftWrench : LiftRotors → List Float → Vec3 → Wrench
-liftWrench l running air = liftBy (l .«drag_per_thrust_n_per_mps») (wrenchOf (rotorsAt l running)) air
+liftWrench l running air = liftBy (l .«drag_per_thrust_n_per_mps») (wrenchWithoutFalloff (rotorsAt l running)) air
 
 -- ---- the reflection, by flipping sign bits, and what it is to be one as numbers
 unfoldable pub reflectRotors : LiftRotors → LiftRotors

@@ -22,19 +22,19 @@ use Rattle.surfaces.specs.declared.Surfaces.{Surfaces}
 unfoldable pub putServo : Factors → ℕ → Vec3 → Factors
 putServo f k v = cond (ltb k 8) (record { at = set (f .at) k v }) f
 
-unfoldable pub putAt : Factors → Slot → Vec3 → Factors
-putAt f (Motor k) v = f
-putAt f (Servo k) v = putServo f k v
-putAt f (Lift k) v = f
+unfoldable pub putServoAt : Factors → Slot → Vec3 → Factors
+putServoAt f (Motor k) v = f
+putServoAt f (Servo k) v = putServo f k v
+putServoAt f (Lift k) v = f
 
-unfoldable pub putOf : Factors → MixRow → Factors
-putOf f row = putAt f (row .slot) (rowFactors row)
+unfoldable pub putServoRow : Factors → MixRow → Factors
+putServoRow f row = putServoAt f (row .slot) (rowFactors row)
 
 abbrev pub noFactors : Factors
 noFactors = record { at = replicate 8 zeroVec }
 
 unfoldable pub factorsOf : Rows → List Vec3
-factorsOf rows = putTo putOf noFactors (rows .rows) (liveOf rows) .at
+factorsOf rows = putTo putServoRow noFactors (rows .rows) (liveOf rows) .at
 
 -- each factor over its axis's sum of squares; 0 where that is 0
 unfoldable pub squareAt : List Vec3 → ℕ → Vec3

@@ -79,7 +79,7 @@ fn factors_of(rows: Rows) -> [Vec3; 8]
 impl Factors {
     // Takes in a row, where it is a servo's.
     pub fn put(self, row: MixRow) -> Self
-        ensures { λ r. ⌜ r ≡ Surface.putOf self row ⌝ }
+        ensures { λ r. ⌜ r ≡ Surface.putServoRow self row ⌝ }
     {
         let slot = row.slot;
         match slot {

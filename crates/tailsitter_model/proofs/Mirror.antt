@@ -8,7 +8,7 @@ use Rattle.float.proofs.Zeros.{nonzero-below}
 use Rattle.float.specs.Notation.{_⊖_, _⊗_, _⊘_, nought, two}
 use Rattle.float.specs.Same.{Rel}
 use Rattle.libm.specs.Sqrt.{sqrtOf}
-use Rattle.tailsitter_model.specs.Slipstream.{addedPa, discPa, washFrom, washOf}
+use Rattle.tailsitter_model.specs.Slipstream.{addedPa, discPa, washByPressure, washOf}
 use Rattle.tailsitter_model.specs.declared.PropWash.{PropWash}
 
 sink-is : {a a' : Float} (c : Float) → Rel false a a' → T (lt a nought) → c ⊗ neg a' ≡ c ⊗ neg a
@@ -27,4 +27,4 @@ added-is {a} {a'} w thrust density h = rw (r-lt h (r-same nought)) (go (lt a nou
 
 pub wash-is : {a a' : Float} (w : PropWash) (thrust density : Float) → Rel false a a' → washOf w thrust a' density ≡ washOf w thrust a density
 unfolding washOf
-wash-is w thrust density h = ap (λ (z : Float). washFrom w z density) (added-is w thrust density h)
+wash-is w thrust density h = ap (λ (z : Float). washByPressure w z density) (added-is w thrust density h)

@@ -20,8 +20,8 @@ addedPa w thrust axial density =
 unfoldable pub flowMps : Float → Float → Float
 flowMps added density = sqrtOf binary32 (two ⊗ atLeastZero added ⊘ density)
 
-unfoldable pub washFrom : PropWash → Float → Float → Wash
-washFrom w added density = record {
+unfoldable pub washByPressure : PropWash → Float → Float → Wash
+washByPressure w added density = record {
   «pressure_pa» = w .«surface_fraction» ⊗ added;
   «roll_pressure_pa» = w .«roll_fraction» ⊗ added;
   «pitch_moment_pa» = w .«pitch_moment» ⊗ atLeastZero (w .«surface_fraction» ⊗ added);
@@ -30,7 +30,7 @@ washFrom w added density = record {
 }
 
 unfoldable pub washOf : PropWash → Float → Float → Float → Wash
-washOf w thrust axial density = washFrom w (addedPa w thrust axial density) density
+washOf w thrust axial density = washByPressure w (addedPa w thrust axial density) density
 
 abbrev pub noWash : Wash
 noWash = record {

@@ -2,7 +2,7 @@
 use lib.Ieee.{Float}
 use mathlib.Core.Bool.{cond}
 use mathlib.Core.List.{List}
-use Rattle.aero.specs.Wrench.{wrenchOf}
+use Rattle.aero.specs.Wrench.{aeroWrench}
 use Rattle.aero.specs.declared.Aero.{Aero}
 use Rattle.airframe.specs.declared.Airframe.{Airframe}
 use Rattle.body.specs.Motion.{addWrench, airVelocity}
@@ -67,7 +67,7 @@ pullOf m motors air = wrenchWith motors (m .«thrust_falloff») (air .x)
 
 unfoldable pub aeroOf : Airframe → Float → Surfaces → Body → Vec3 → Float → Aero
 aeroOf a thrust surfaces b air density =
-    wrenchOf (a .model) air (b .«angular_velocity_radps»)
+    aeroWrench (a .model) air (b .«angular_velocity_radps»)
     (deflectionRad surfaces (a .model .«max_deflection_rad»))
     (washFor a thrust (air .x) density)
     density

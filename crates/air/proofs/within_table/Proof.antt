@@ -13,7 +13,7 @@ use native.Mathlib.Omega.{arith}
 use Rattle.float.specs.Notation.{_⊖_, rounded}
 use Rattle.air.proofs.Rows.{Guessed, guess, guessed, kept, quotient-small, row-inside, row-lower, stepped-down}
 use Rattle.air.specs.Contracts.{Inside}
-use Rattle.air.specs.Density.{between, heightOf, lastRow, rowCount, rowFrom}
+use Rattle.air.specs.Density.{between, heightOf, lastRow, rowCount, rowDownFrom}
 use Rattle.air.proofs.within_table.Statement.{statement}
 use Rattle.air.proofs.within_table.Tie as tie
 
@@ -45,10 +45,10 @@ module _ (h : Float) (w : Inside h) (z : ℤ) (is : z ≡ guess h) where
   is-row = rw read-back in-table
 
   module _ (r : Float) (made : r ≡ heightOf (natAbs (toZ w64 (ofZ w64 z)))) where
-    down : lt h r ≡ true → natAbs (toZ w64 (ofZ w64 z)) ≡ suc (rowFrom lastRow h)
+    down : lt h r ≡ true → natAbs (toZ w64 (ofZ w64 z)) ≡ suc (rowDownFrom lastRow h)
     down e = ap natAbs read-back ∙ stepped-down h w (g .k) (g .at-least) (g .at-most) (sym (ap (lt h) (made ∙ ap (λ (z : ℤ). heightOf (natAbs z)) read-back)) ∙ e)
 
-    stays : lt h r ≡ false → natAbs (toZ w64 (ofZ w64 z)) ≡ rowFrom lastRow h
+    stays : lt h r ≡ false → natAbs (toZ w64 (ofZ w64 z)) ≡ rowDownFrom lastRow h
     stays e = ap natAbs read-back ∙ kept h w (g .k) (g .at-least) (g .at-most) (sym (ap (lt h) (made ∙ ap (λ (z : ℤ). heightOf (natAbs z)) read-back)) ∙ e)
 
 one-less : (n i : ℕ) → n ≡ suc i → n - 1 ≡ i
@@ -70,7 +70,7 @@ abbrev guess-of : tie.After-truncated → ℕ
 guess-of g = natAbs (toZ w64 (ofZ w64 (g .truncated .result)))
 
 abbrev row-of : tie.After-truncated → ℕ
-row-of g = rowFrom lastRow (g .before .args .height-m)
+row-of g = rowDownFrom lastRow (g .before .args .height-m)
 
 went-down : (c : tie.Then1) → guess-of (c .before .before) ≡ suc (row-of (c .before .before))
 unfolding ofBits round

@@ -5,7 +5,7 @@ use mathlib.Core.Path.{_∙_, _≡_, ap, refl}
 use native.Mathlib.Nat.{le-antisymm}
 use borrow.Author.Needs.{needs}
 use Rattle.ordered.proofs.Ordered.{pass-more}
-use Rattle.ordered.specs.Contracts.{allPass}
+use Rattle.ordered.specs.Ordered.{allPass}
 use Rattle.airframe.specs.Acceptance.{insideFrom, numberInside}
 use Rattle.airframe.specs.Numbers.{numbersCount}
 use Rattle.airframe.proofs.numbers_inside.Statement.{statement}

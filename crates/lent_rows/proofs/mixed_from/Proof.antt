@@ -51,7 +51,7 @@ use Rattle.mixers.specs.Rows.{noRow}
 use Rattle.mixers.specs.declared.MixRow.{MixRow}
 use Rattle.mixers.proofs.MixRow as T
 use Rattle.mixers.proofs.MixRow.Laws as T′
-use Rattle.lent_rows.specs.Mixing.{mixFrom, putOf}
+use Rattle.lent_rows.specs.Mixing.{mixFrom, putRow}
 use Rattle.lent_rows.specs.declared.Mix.{Mix}
 use Rattle.lent_rows.proofs.Walk.{mix-end, mix-step}
 use Rattle.lent_rows.proofs.Mix as X
@@ -100,7 +100,7 @@ module _ (start : Mix) (ys : List MixRow) where
   abbrev begins : Is X.the-row start (xv start ∷ []) → State
   begins is = record { i = 0; m = start; is = is; within = omega arith; same = refl }
 
-  abbrev goes-on : (s : State) (m : Mix) → Is X.the-row m (xv m ∷ []) → m ≡ putOf (s .m) (getD ys (s .i) noRow) → s .i < length ys → State
+  abbrev goes-on : (s : State) (m : Mix) → Is X.the-row m (xv m ∷ []) → m ≡ putRow (s .m) (getD ys (s .i) noRow) → s .i < length ys → State
   goes-on s m is e l = record {
     i = s .i + 1;
     m = m;
@@ -115,8 +115,8 @@ module _ {M : Type 1} (𝓤 : URA M) (H : Heap 𝓤) (A : Atoms 𝓤) (mem : Mem
   PutC = tripleOf 𝓤 H A put.signature (put.spec 𝓤 H A mem run)
 
   -- of the callee's `ensured`, the clause alone
-  put-said : (m : Mix) (y : MixRow) (r : Mix) → ent 𝓤 (ensured 𝓤 H A put.ended (put.clauses 𝓤 H A mem run) tt (m, (y, tt)) tt r) (fact 𝓤 (r ≡ putOf m y))
-  put-said m y r = exE 𝓤 _ (λ ws. snd∗ 𝓤 (sem 𝓤 H A (lasts put.ended tt (m, (y, tt)) ws)) (fact 𝓤 (r ≡ putOf m y)))
+  put-said : (m : Mix) (y : MixRow) (r : Mix) → ent 𝓤 (ensured 𝓤 H A put.ended (put.clauses 𝓤 H A mem run) tt (m, (y, tt)) tt r) (fact 𝓤 (r ≡ putRow m y))
+  put-said m y r = exE 𝓤 _ (λ ws. snd∗ 𝓤 (sem 𝓤 H A (lasts put.ended tt (m, (y, tt)) ws)) (fact 𝓤 (r ≡ putRow m y)))
 
 module _ {M : Type 1} (𝓤 : URA M) (H : Heap 𝓤) (A : Atoms 𝓤) (W : Given 𝓤 H A) (mem : Memory → SProp 𝓤) (run : Routine → Fun 𝓤) (κ : Lft) (q : Share) (b o : ℕ) (γ : GName) (ys : List MixRow) (start : Mix) (is₀ : Is X.the-row start (xv start ∷ [])) where
   abbrev n : ℕ
@@ -191,7 +191,7 @@ module _ {M : Type 1} (𝓤 : URA M) (H : Heap 𝓤) (A : Atoms 𝓤) (W : Given
         use0 W (raw (PutC 𝓤 H A mem run .pre (to-put (s .m) y))) (asks-put (s .m) y (s .is) is-y) $
         calls-at ! (fmOf 𝓤 H (W .laws) 𝓣) (PutC 𝓤 H A mem run) known-put (to-put (s .m) y) (and-then ! (load ! (from ! (stop !)) (look ! 14 refl)) (and-then ! (load ! (from ! (stop !)) (look ! 4 refl)) (no-more !))) (λ v.
         use1 W (later (some (λ (r : Mix). (‵ ftrue ⊛ ‵ (X.the-row .own r (v ∷ []))) ⊛ raw (ensured 𝓤 H A put.ended (put.clauses 𝓤 H A mem run) tt (s .m, (y, tt)) tt r)))) (id⊢ 𝓤 _) $ await ! tt $ pick ! (λ r.
-        split ! $ move ! (1 ∷ []) $ use1 W (raw (fact 𝓤 (r ≡ putOf (s .m) y))) (put-said 𝓤 H A mem run (s .m) y r) $ heard ! (r ≡ putOf (s .m) y) (λ e. split ! $ drop ! $
+        split ! $ move ! (1 ∷ []) $ use1 W (raw (fact 𝓤 (r ≡ putRow (s .m) y))) (put-said 𝓤 H A mem run (s .m) y r) $ heard ! (r ≡ putRow (s .m) y) (λ e. split ! $ drop ! $
         peeks ! X.the-row (Is X.the-row) (shows 𝓤 H A X.the-row) r (v ∷ []) (λ is. drop ! $
         land ! (from ! (stop !)) (store ! 13 refl (LL.lawful X.the-type X′.the-laws 𝓤 H A W .typed r _ is .0)) $ rewrite ! 13 (λ (u : Val). ‵ (fat fullShare X′.mir l₃ 0 u)) (ap only (LL.tells X.the-type X′.the-laws r _ is)) refl $
         assigns-last ! (bin ! (load ! (from ! (stop !)) (look ! 11 refl)) (lit ! tt) (record { fits = next })) (from ! (stop !)) (store ! 11 refl (tt, record { fits = next })) $

@@ -5,13 +5,13 @@ use native.Mathlib.Nat.{le-antisymm}
 use borrow.Author.Needs.{needs}
 use Rattle.mixers.proofs.Putting.{put-more}
 use Rattle.mixers.specs.Rows.{putTo}
-use Rattle.surfaces.specs.Surface.{factorsOf, noFactors, putOf}
+use Rattle.surfaces.specs.Surface.{factorsOf, noFactors, putServoRow}
 use Rattle.surfaces.specs.declared.Factors.{Factors}
 use Rattle.surfaces.proofs.factors_of.Statement.{statement}
 use Rattle.surfaces.proofs.factors_of.Tie as tie
 
 abbrev Inv-loop : tie.InvT-loop
-Inv-loop list count factors₀ i₀ factors i = (i ≤ count) × (count ≤ 16) × (factors ≡ putTo putOf noFactors list i)
+Inv-loop list count factors₀ i₀ factors i = (i ≤ count) × (count ≤ 16) × (factors ≡ putTo putServoRow noFactors list i)
 
 abbrev μ-loop : tie.MeasureT-loop
 μ-loop list count factors₀ i₀ factors i = count - i
@@ -50,7 +50,7 @@ returns : tie.Need-returns Inv-loop μ-loop
 unfolding factorsOf
 returns c =
     let s = c .before .before in
-    ap (λ (f : Factors). f .at) (s .loop .inv .2 ∙ ap (putTo putOf noFactors (s .before .before .before .before .args .rows .rows)) (le-antisymm (s .loop .inv .0) (c .before .loop-test .left) ∙ s .before .before .live .ensures .0))
+    ap (λ (f : Factors). f .at) (s .loop .inv .2 ∙ ap (putTo putServoRow noFactors (s .before .before .before .before .args .rows .rows)) (le-antisymm (s .loop .inv .0) (c .before .loop-test .left) ∙ s .before .before .live .ensures .0))
 
 pub factors-of-spec : {M : Type 1} → statement M
 factors-of-spec =

@@ -1,5 +1,5 @@
 -- `lent_rows::Mix::put` meets its contract. Assumes nothing.
-use Rattle.lent_rows.specs.Mixing.{putOf}
+use Rattle.lent_rows.specs.Mixing.{putRow}
 use borrow.Author.Needs.{needs}
 use Rattle.lent_rows.proofs.Mix.put.Statement.{statement}
 use Rattle.lent_rows.proofs.Mix.put.Tie as tie
@@ -14,7 +14,7 @@ put-requires-2 : tie.Need-put-requires-2
 put-requires-2 c κs = search needs
 
 returns : tie.Need-returns
-unfolding putOf
+unfolding putRow
 returns c = simp (c .before .before .put .ensures, c .before .put-lift .ensures, c .put2 .ensures)
 
 pub put-spec : {M : Type 1} → statement M

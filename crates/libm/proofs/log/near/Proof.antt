@@ -2,12 +2,12 @@
 use lib.Ieee.{ofBits, round}
 use mathlib.Core.Path.{refl}
 use Rattle.libm.specs.Exp.{horner}
-use Rattle.libm.specs.Log.{lnNear, ratio, series}
+use Rattle.libm.specs.Log.{lnNear, ratio, logSeries}
 use Rattle.libm.proofs.log.near.Statement.{statement}
 use Rattle.libm.proofs.log.near.Tie as tie
 
 returns : tie.Need-returns
-unfolding lnNear ratio series horner ofBits round
+unfolding lnNear ratio logSeries horner ofBits round
 returns c = refl
 
 pub near-spec : {M : Type 1} → statement M

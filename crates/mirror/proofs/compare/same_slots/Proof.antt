@@ -2,7 +2,7 @@
 use mathlib.Core.Bool.{Bool, cond, false}
 use Rattle.mirror.specs.Compare.{sameSlot}
 use native.Mathlib.Nat.{le-antisymm}
-use Rattle.ordered.specs.Contracts.{allPass}
+use Rattle.ordered.specs.Ordered.{allPass}
 use Rattle.ordered.proofs.Ordered.{pass-more}
 use borrow.Author.Needs.{needs}
 use mathlib.Core.Path.{_∙_, _≡_, ap, refl}

@@ -5,13 +5,13 @@ use native.Mathlib.Nat.{le-antisymm}
 use borrow.Author.Needs.{needs}
 use Rattle.mixers.proofs.Putting.{put-more}
 use Rattle.mixers.specs.Rows.{liveOf, putTo}
-use Rattle.motors.specs.Motor.{groupOf, putOf}
+use Rattle.motors.specs.Motor.{groupOf, putMotorRow}
 use Rattle.motors.specs.declared.MotorGroup.{MotorGroup}
 use Rattle.motors.proofs.MotorGroup.new.Statement.{statement}
 use Rattle.motors.proofs.MotorGroup.new.Tie as tie
 
 abbrev Inv-loop : tie.InvT-loop
-Inv-loop x list count group₀ i₀ group i = (i ≤ count) × (count ≤ 16) × (group ≡ putTo putOf group₀ list i)
+Inv-loop x list count group₀ i₀ group i = (i ≤ count) × (count ≤ 16) × (group ≡ putTo putMotorRow group₀ list i)
 
 abbrev μ-loop : tie.MeasureT-loop
 μ-loop x list count group₀ i₀ group i = count - i
@@ -52,7 +52,7 @@ returns c =
     let s = c .before in
     let a = s .before .before .before .before .args in
     let n = le-antisymm (s .loop .inv .0) (c .loop-test .left) ∙ s .before .before .live .ensures .0 in
-    s .loop .inv .2 ∙ ap (putTo putOf _ (a .rows .rows)) n ∙ ap (λ (g : MotorGroup). putTo putOf g (a .rows .rows) (liveOf (a .rows))) (s .before .undriven .ensures)
+    s .loop .inv .2 ∙ ap (putTo putMotorRow _ (a .rows .rows)) n ∙ ap (λ (g : MotorGroup). putTo putMotorRow g (a .rows .rows) (liveOf (a .rows))) (s .before .undriven .ensures)
 
 pub new-spec : {M : Type 1} → statement M
 new-spec =

@@ -1,5 +1,5 @@
 -- `motors::MotorGroup::put` meets its contract. Assumes nothing.
-use Rattle.motors.specs.Motor.{putAt, putOf}
+use Rattle.motors.specs.Motor.{putMotorAt, putMotorRow}
 use borrow.Author.Needs.{needs}
 use Rattle.motors.proofs.MotorGroup.put.Statement.{statement}
 use Rattle.motors.proofs.MotorGroup.put.Tie as tie
@@ -23,15 +23,15 @@ enum-told-2 : tie.Need-enum-told-2
 enum-told-2 c = search needs
 
 returns : tie.Need-returns
-unfolding putOf putAt
+unfolding putMotorRow putMotorAt
 returns c = simp (c .put-motor .ensures, c .before .torque .ensures, c .before .before .before .slot .given .1)
 
 returns-2 : tie.Need-returns-2
-unfolding putOf putAt
+unfolding putMotorRow putMotorAt
 returns-2 c = simp (c .enum-told .given .1)
 
 returns-3 : tie.Need-returns-3
-unfolding putOf putAt
+unfolding putMotorRow putMotorAt
 returns-3 c = simp (c .enum-told2 .given .1)
 
 pub put-spec : {M : Type 1} → statement M

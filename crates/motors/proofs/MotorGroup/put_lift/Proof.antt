@@ -1,5 +1,5 @@
 -- `motors::MotorGroup::put_lift` meets its contract. Assumes nothing.
-use Rattle.motors.specs.Motor.{putLiftAt, putLiftOf}
+use Rattle.motors.specs.Motor.{putLiftAt, putLiftRow}
 use borrow.Author.Needs.{needs}
 use Rattle.motors.proofs.MotorGroup.put_lift.Statement.{statement}
 use Rattle.motors.proofs.MotorGroup.put_lift.Tie as tie
@@ -23,15 +23,15 @@ put-motor-requires : tie.Need-put-motor-requires
 put-motor-requires c κs = search needs
 
 returns : tie.Need-returns
-unfolding putLiftOf putLiftAt
+unfolding putLiftRow putLiftAt
 returns c = simp (c .enum-told .given .1)
 
 returns-2 : tie.Need-returns-2
-unfolding putLiftOf putLiftAt
+unfolding putLiftRow putLiftAt
 returns-2 c = simp (c .enum-told2 .given .1)
 
 returns-3 : tie.Need-returns-3
-unfolding putLiftOf putLiftAt
+unfolding putLiftRow putLiftAt
 returns-3 c = simp (c .put-motor .ensures, c .before .torque .ensures, c .before .before .before .slot .given .1)
 
 pub put-lift-spec : {M : Type 1} → statement M

@@ -7,7 +7,7 @@ use borrow.Author.Needs.{needs}
 use Rattle.mixers.proofs.Slots.{sum-more, vec-sum-more}
 use Rattle.mixers.specs.Slots.{sumTo, vecAt, vecSumTo}
 use Rattle.vector.specs.Vector.{scaleOf}
-use Rattle.motors.specs.Motor.{slotThrust, slotTorque, whole, wrenchBy, wrenchOf}
+use Rattle.motors.specs.Motor.{slotThrust, slotTorque, whole, wrenchBy, wrenchWithoutFalloff}
 use Rattle.motors.specs.declared.Motors.{Motors}
 use Rattle.motors.proofs.Motors.wrench.Statement.{statement}
 use Rattle.motors.proofs.Motors.wrench.Tie as tie
@@ -74,7 +74,7 @@ loop-again c =
     )
 
 returns : tie.Need-returns Inv-loop μ-loop
-unfolding wrenchOf wrenchBy
+unfolding wrenchWithoutFalloff wrenchBy
 returns c =
     let s = c .before in
     let e : s .loop .i ≡ 8 = le-antisymm (s .loop .inv .0) (c .loop-test .left) in

@@ -1,5 +1,5 @@
 -- `surfaces::Factors::put` meets its contract. Assumes nothing.
-use Rattle.surfaces.specs.Surface.{putAt, putOf}
+use Rattle.surfaces.specs.Surface.{putServoAt, putServoRow}
 use borrow.Author.Needs.{needs}
 use Rattle.surfaces.proofs.Factors.put.Statement.{statement}
 use Rattle.surfaces.proofs.Factors.put.Tie as tie
@@ -23,15 +23,15 @@ enum-told-2 : tie.Need-enum-told-2
 enum-told-2 c = search needs
 
 returns : tie.Need-returns
-unfolding putOf putAt
+unfolding putServoRow putServoAt
 returns c = simp (c .put-servo .ensures, c .before .factors .ensures, c .before .before .before .slot .given .1)
 
 returns-2 : tie.Need-returns-2
-unfolding putOf putAt
+unfolding putServoRow putServoAt
 returns-2 c = simp (c .enum-told .given .1)
 
 returns-3 : tie.Need-returns-3
-unfolding putOf putAt
+unfolding putServoRow putServoAt
 returns-3 c = simp (c .enum-told2 .given .1)
 
 pub put-spec : {M : Type 1} → statement M

@@ -1,7 +1,7 @@
 -- `tailsitter_model::PropWash::wash` meets its contract. Assumes nothing.
 use lib.Ieee.{ofBits}
 use borrow.Author.Needs.{needs}
-use Rattle.tailsitter_model.specs.Slipstream.{flowMps, washFrom, washOf}
+use Rattle.tailsitter_model.specs.Slipstream.{flowMps, washByPressure, washOf}
 use Rattle.tailsitter_model.proofs.PropWash.wash.Statement.{statement}
 use Rattle.tailsitter_model.proofs.PropWash.wash.Tie as tie
 
@@ -18,7 +18,7 @@ at-least-zero-requires-2 : tie.Need-at-least-zero-requires-2
 at-least-zero-requires-2 c κs = search needs
 
 returns : tie.Need-returns
-unfolding washOf washFrom flowMps ofBits
+unfolding washOf washByPressure flowMps ofBits
 returns c = simp (c .before .before .before .before .at-least-zero2 .ensures, c .before .before .before .before .before .before .sqrtf .ensures, c .before .before .before .before .before .before .before .at-least-zero .ensures, c .before .before .before .before .before .before .before .before .added-pa .ensures)
 
 pub wash-spec : {M : Type 1} → statement M
