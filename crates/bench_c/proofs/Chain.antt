@@ -1,16 +1,20 @@
--- Tick calls of the library, one after another, each fed the array that the last one left: their replies, reports and states are those
--- of the definition's calls, so that demand 3 speaks of calls that were made. Assumes nothing.
-use Prim.Native.Nat.{ℕ}
-use borrow.Author.Tests.{eq-eqb}
+-- Tick calls of the library, one after another, each fed the array that the last one left: what they tell and leave is what the
+-- definition's calls do, so that demand 3 speaks of calls that were made. Assumes nothing.
+use Prim.Native.Nat.{_%_, _*_, _+_, _/_, _<_, ℕ}
+use borrow.Author.Tests.{eq-eqb, ltb-true}
+use denote.Floats.{is-true}
+use lib.Dec.{T, ltb}
 use lib.Ieee.{Float}
 use lib.ListN.{length}
 use mathlib.Core.Bool.{false, true}
 use mathlib.Core.List.{List, map}
 use mathlib.Core.Path.{_∙_, _≡_, ap, refl}
+use native.Mathlib.Omega.{arith}
 use Rattle.airframe.specs.declared.Airframe.{Airframe}
 use Rattle.airframe_block.specs.Block.{readAirframeOf}
-use Rattle.answers.specs.Answers.{numberOf}
+use Rattle.answers.specs.Answers.{numberOf, placeOf}
 use Rattle.answers.specs.declared.Answer.{Answer}
+use Rattle.answers.specs.declared.Answer.the-variants.{Departure, Done, NumberOutOfRange, ReservedBit, StateOutside, StepOutside, TooManyRows, WindUnusable, WrongFalloff, WrongLength, WrongVersion}
 use Rattle.arrays.proofs.RoundTrip.{flight-again}
 use Rattle.arrays.specs.Airframe.{airframeIn, airframeNumbersCount}
 use Rattle.arrays.specs.Flight.{flightIn, slotsIn, tickIn}
@@ -20,14 +24,15 @@ use Rattle.float.proofs.Tests.{either}
 use Rattle.motors.specs.Motor.{spinOf}
 use Rattle.quadplane_model.specs.Lift.{rotorsSpun}
 use Rattle.ordered.proofs.Ordered.{some-eqb}
-use Rattle.run.proofs.Calls.{OneCall, chain-calls}
-use Rattle.run.specs.Calls.{Chain, Each}
-use Rattle.run.specs.Run.{callsOf}
+use Rattle.run.proofs.Calls.{OneCall, chain-flown}
+use Rattle.run.specs.Calls.{Chain}
+use Rattle.run.specs.Mirrored.{ByDefinition}
+use Rattle.run.specs.Run.{toldBy}
 use Rattle.surfaces.specs.Surface.{moveTo}
 use Rattle.wing.proofs.Passed.{of-tick}
 use Rattle.wing.specs.Tick.{liftSpun, liftedOf, movedOf, nextFrom, nextOf, refusedOf, spunOf, steppedOf, tickOf}
 use Rattle.wing.specs.declared.Ticked.{Ticked}
-use Rattle.bench_c.specs.Library.{ArrayCall, Tells, TickOutcome, isDone, stateAfterTick, tested, tick, tickLengths, tickPrepared, tickedBy}
+use Rattle.bench_c.specs.Library.{ArrayCall, TickOutcome, isDone, replyOf, reportNumbers, stateAfterTick, tested, tick, tickLengths, tickPrepared, tickedBy, toldIn}
 
 -- ---- what a tick leaves in the array is the state it hands back
 abbrev Left : List Float → Ticked → Type 0
@@ -57,26 +62,61 @@ rotors-are-eight state = refl
 tick-left : (a : Airframe) (state : List Float) (t : Tick) → Left state (tickOf a (flightIn state) t)
 tick-left a state t = of-tick (Left state) a (flightIn state) t (λ x n. refused-left state x (some-eqb (numberOf x) n)) (λ p. next-left a state (flightIn state) t (scales-are-eight state) (rotors-are-eight state))
 
+-- ---- what a reply tells
+number-small : (x : Answer) → T (ltb (numberOf x) 16)
+number-small Done = tt
+number-small WrongLength = tt
+number-small WrongVersion = tt
+number-small WrongFalloff = tt
+number-small ReservedBit = tt
+number-small TooManyRows = tt
+number-small (NumberOutOfRange p) = tt
+number-small StateOutside = tt
+number-small StepOutside = tt
+number-small Departure = tt
+number-small WindUnusable = tt
+
+reply-number : (x : Answer) → replyOf x % 16 ≡ numberOf x
+unfolding replyOf
+reply-number x = go (numberOf x) (placeOf x) (ltb-true _ _ (is-true _ (number-small x)))
+  where
+    go : (n p : ℕ) → n < 16 → (n + 16 * p) % 16 ≡ n
+    go n p l = omega arith
+
+reply-place : (x : Answer) → replyOf x / 16 ≡ placeOf x
+unfolding replyOf
+reply-place x = go (numberOf x) (placeOf x) (ltb-true _ _ (is-true _ (number-small x)))
+  where
+    go : (n p : ℕ) → n < 16 → (n + 16 * p) / 16 ≡ p
+    go n p l = omega arith
+
+tested-tells : (a : Airframe) (state : List Float) (t : Tick) → toldIn (tested state (tickOf a (flightIn state) t)) ≡ toldBy (tickOf a (flightIn state) t)
+unfolding toldIn reportNumbers
+tested-tells a state t = let k = tickOf a (flightIn state) t in λ i. record {
+  answer = reply-number (k .report .answer) i;
+  place = reply-place (k .report .answer) i;
+  alpha = k .report .«alpha_rad»;
+  beta = k .report .«beta_rad»;
+  thrust = k .report .«thrust_n»;
+  state = tick-left a state t i;
+}
+
 -- ---- one call that ticks with the airframe a, whatever form it has
 abbrev TicksWith : Airframe → (List Float → List Float → List Float → TickOutcome) → Type 0
 TicksWith a call = (state t report : List Float) → tickLengths (length state) (length t) (length report) ≡ true → call state t report ≡ tested state (tickOf a (flightIn state) (tickIn t))
 
 one-call : (a : Airframe) (call : List Float → List Float → List Float → TickOutcome) → TicksWith a call
-    → (state t : List Float) (o : TickOutcome) (after : List Float) → Unit {0} → ArrayCall call state t o after → OneCall a flightIn tickIn (λ (x : List Float). Unit {0}) Tells state t o after
-one-call a call h state t o after u c =
+    → (state t : List Float) (o : TickOutcome) (after : List Float) → ArrayCall call state t o after → OneCall a flightIn tickIn toldIn state t o after
+one-call a call h state t o after c =
     let e : o ≡ tested state (tickOf a (flightIn state) (tickIn t)) = c .answered ∙ h state t (c .report) (c .fit) in
-    let l = tick-left a state (tickIn t) in
-    record {
-      told = record { reply = ap (λ (x : TickOutcome). x .reply) e; state = ap (λ (x : TickOutcome). flightIn (x .state)) e ∙ l; report = ap (λ (x : TickOutcome). x .report) e };
-      left = ap flightIn (c .left) ∙ ap (λ (x : TickOutcome). flightIn (x .state)) e ∙ l;
-      fits = tt;
-    }
+    record { told = ap toldIn e ∙ tested-tells a state (tickIn t); left = ap flightIn (c .left) ∙ ap (λ (x : TickOutcome). flightIn (x .state)) e ∙ tick-left a state (tickIn t) }
 
-array-calls : (a : Airframe) (call : List Float → List Float → List Float → TickOutcome) → TicksWith a call
-    → {state after : List Float} {ts : List (List Float)} {os : List TickOutcome} → Chain (ArrayCall call) state ts os after → Each Tells os (callsOf a (flightIn state) (map tickIn ts))
-array-calls a call h r = chain-calls a flightIn tickIn (λ (x : List Float). Unit {0}) Tells (ArrayCall call) (one-call a call h) tt r
+-- ---- a chain of them is a flight by demand 2's definition
+array-flown : (a : Airframe) (call : List Float → List Float → List Float → TickOutcome) → TicksWith a call
+    → {state after : List Float} {ts : List (List Float)} {os : List TickOutcome} → Chain (ArrayCall call) state ts os after → ByDefinition a (flightIn state) (map tickIn ts) (map toldIn os) (flightIn after)
+array-flown a call h r = chain-flown a flightIn tickIn toldIn (ArrayCall call) (one-call a call h) r
 
--- ---- with the airframe as a block that is accepted, and as its array
+-- with the airframe as a block that is accepted, and as its array
 block-ticks : (block : List ℕ) → isDone (readAirframeOf block .answer) ≡ true → TicksWith (readAirframeOf block .airframe) (tick block)
 unfolding tick tickedBy
 block-ticks block d state t report l = rw (l, d) refl
@@ -86,10 +126,10 @@ unfolding tickPrepared
 prepared-ticks airframe e state t report l = rw (eq-eqb _ _ e, l) refl
 
 module _ {state after : List Float} {ts : List (List Float)} {os : List TickOutcome} where
-  pub block-calls : (block : List ℕ) → isDone (readAirframeOf block .answer) ≡ true → Chain (ArrayCall (tick block)) state ts os after
-      → Each Tells os (callsOf (readAirframeOf block .airframe) (flightIn state) (map tickIn ts))
-  block-calls block d r = array-calls (readAirframeOf block .airframe) (tick block) (block-ticks block d) r
+  pub block-flown : (block : List ℕ) → isDone (readAirframeOf block .answer) ≡ true → Chain (ArrayCall (tick block)) state ts os after
+      → ByDefinition (readAirframeOf block .airframe) (flightIn state) (map tickIn ts) (map toldIn os) (flightIn after)
+  block-flown block d r = array-flown (readAirframeOf block .airframe) (tick block) (block-ticks block d) r
 
-  pub prepared-calls : (airframe : List Float) → length airframe ≡ airframeNumbersCount → Chain (ArrayCall (tickPrepared airframe)) state ts os after
-      → Each Tells os (callsOf (airframeIn airframe) (flightIn state) (map tickIn ts))
-  prepared-calls airframe e r = array-calls (airframeIn airframe) (tickPrepared airframe) (prepared-ticks airframe e) r
+  pub prepared-flown : (airframe : List Float) → length airframe ≡ airframeNumbersCount → Chain (ArrayCall (tickPrepared airframe)) state ts os after
+      → ByDefinition (airframeIn airframe) (flightIn state) (map tickIn ts) (map toldIn os) (flightIn after)
+  prepared-flown airframe e r = array-flown (airframeIn airframe) (tickPrepared airframe) (prepared-ticks airframe e) r

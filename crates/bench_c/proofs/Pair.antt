@@ -5,10 +5,11 @@ use lib.Dec.{eqb}
 use lib.Ieee.{Float}
 use mathlib.Core.Bool.{Bool, cond, false, true}
 use mathlib.Core.List.{List}
-use mathlib.Core.Path.{_∙_, _≡_, ap, refl, sym}
+use mathlib.Core.Path.{_∙_, _≡_, ap, refl, subst, sym}
 use native.Mathlib.Nat.{suc-ne-zero}
 use native.Mathlib.Omega.{arith}
 use Rattle.airframe.specs.Acceptance.{refusedPlace}
+use Rattle.airframe.specs.declared.Airframe.{Airframe}
 use Rattle.airframe_block.proofs.Reading.{accepted-is-accepted}
 use Rattle.airframe_block.specs.Block.{readAirframeOf}
 use Rattle.airframe_block.specs.declared.AirframeRead.{AirframeRead}
@@ -17,14 +18,14 @@ use Rattle.answers.specs.declared.Answer.{Answer}
 use Rattle.answers.specs.declared.Answer.the-variants.{Departure, Done, NumberOutOfRange, ReservedBit, StateOutside, StepOutside, TooManyRows, WindUnusable, WrongFalloff, WrongLength, WrongVersion}
 use Rattle.arrays.specs.Flight.{flightIn, flightNumbers, quatIn, slotsIn, vecIn}
 use Rattle.flight.proofs.Mirror.{reflect-flight}
-use Rattle.flight.specs.Envelope.{outsideOf}
 use Rattle.flight.specs.Reflection.{FlightRel, reflectFlight}
 use Rattle.flight.specs.declared.Flight.{Flight}
 use Rattle.mixers.specs.Slots.{at, slots}
-use Rattle.run.specs.Mirrored.{RanRel}
+use Rattle.run.specs.Mirrored.{Demand3, RanRel}
 use Rattle.run.specs.Run.{ended, isWhole, ranOf}
 use Rattle.run.specs.declared.Pair.{Pair}
 use Rattle.run.specs.declared.Ran.{Ran}
+use Rattle.bench_c.proofs.Chain.{block-flown, prepared-flown}
 use Rattle.bench_c.specs.Contracts.{PairBy}
 use Rattle.bench_c.specs.Library.{PairMirrors, isDone, ranBy, replyOf, stateAfterRun}
 
@@ -100,9 +101,15 @@ pub pair-mirrors : (block : List ℕ) (found other : List Float) (trace : List �
 pair-mirrors block found other trace x f p end end' ex ef h l l' z =
     let n = number-none (p .first .answer) z in
     let m : numberOf (ranBy (readAirframeOf block) f trace .answer) ≡ 0 = sym (ap (λ (r : Ran). numberOf (r .answer)) (h .first ∙ ap (λ (y : AirframeRead). ranBy y f trace) ex)) ∙ n in
-    let a : refusedPlace (x .airframe) ≡ 0 = ap (λ (y : AirframeRead). refusedPlace (y .airframe)) ex ∙ ran-accepted block f trace m in
+    let a : refusedPlace (readAirframeOf block .airframe) ≡ 0 = ran-accepted block f trace m in
+    let d : Demand3 (readAirframeOf block .airframe) (flightIn found) = rw (← ex, ← ef) (h .theorem n) in
+    let b : isDone (readAirframeOf block .answer) ≡ true = eq-eqb _ _ (ran-read (readAirframeOf block) f trace m) in
     record {
       states = rw (l, l') (pair-mirror found other (p .first) (p .second) (h .ends) n);
       count = h .ends .count;
-      theorem = λ o ts. rw (← ex, ← ef) (h .theorem n a (ap outsideOf ef ∙ o) ts);
+      airframe = a;
+      theorem = d;
+      block-calls = λ block' b' o found' us us' os os' z z' ra rs rt r r'. d .flights a o _ _ _ _ _ _ _ _ ra rs rt (block-flown block b r) (block-flown block' b' r');
+      prepared-calls = λ q q' e e' eq o found' us us' os os' z z' ra rs rt r r'.
+          subst (λ (y : Airframe). Demand3 y (flightIn found)) (sym eq) d .flights (ap refusedPlace eq ∙ a) o _ _ _ _ _ _ _ _ ra rs rt (prepared-flown q e r) (prepared-flown q' e' r');
     }

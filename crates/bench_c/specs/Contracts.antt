@@ -3,13 +3,10 @@
 use Prim.Native.Nat.{ℕ}
 use mathlib.Core.List.{List}
 use mathlib.Core.Path.{_≡_}
-use Rattle.airframe.specs.Acceptance.{refusedPlace}
 use Rattle.airframe_block.specs.declared.AirframeRead.{AirframeRead}
 use Rattle.answers.specs.Answers.{numberOf}
-use Rattle.flight.specs.Envelope.{outsideOf}
 use Rattle.flight.specs.declared.Flight.{Flight}
-use Rattle.flight.specs.declared.Tick.{Tick}
-use Rattle.run.specs.Mirrored.{Mirrored, RanRel}
+use Rattle.run.specs.Mirrored.{Demand3, RanRel}
 use Rattle.run.specs.declared.Pair.{Pair}
 use Rattle.bench_c.specs.Library.{ranBy, reflectedBy}
 
@@ -18,5 +15,4 @@ pub record PairBy (x : AirframeRead) (f : Flight) (trace : List ℕ) (r : Pair) 
   pub first : r .first ≡ ranBy x f trace
   pub second : r .second ≡ reflectedBy x f trace
   pub ends : RanRel (r .first) (r .second)
-  pub theorem : numberOf (r .first .answer) ≡ 0 → refusedPlace (x .airframe) ≡ 0 → outsideOf f ≡ 0
-      → (ts : List Tick) → Mirrored (x .airframe) f ts
+  pub theorem : numberOf (r .first .answer) ≡ 0 → Demand3 (x .airframe) f

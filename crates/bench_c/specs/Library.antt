@@ -1,26 +1,27 @@
 -- What each call of the library gives back (include/bench.h), on bytes and on arrays of numbers (arrays/specs): one of the bench's
 -- calls, after the lengths of the arrays. An array of another length gets 1, and nothing is written. Definitions only.
-use Prim.Native.Nat.{_*_, _+_, ℕ}
+use Prim.Native.Nat.{_%_, _*_, _+_, _/_, ℕ}
 use lib.Dec.{eqb}
-use lib.Ieee.{Float}
-use lib.ListN.{length}
+use lib.Ieee.{Float, nan}
+use lib.ListN.{getD, length}
 use mathlib.Core.Bool.{Bool, _&&_, cond, true}
-use mathlib.Core.List.{List, [], _∷_}
+use mathlib.Core.List.{List, [], _∷_, map}
 use mathlib.Core.Path.{_≡_}
-use Rattle.airframe.specs.Reflection.{reflectAirframe}
+use Rattle.airframe.specs.Reflection.{AirframeRel, reflectAirframe}
+use Rattle.airframe.specs.declared.Airframe.{Airframe}
 use Rattle.airframe_block.specs.Block.{readAirframeOf}
 use Rattle.airframe_block.specs.declared.AirframeRead.{AirframeRead}
 use Rattle.answers.specs.Answers.{numberOf, placeOf}
 use Rattle.answers.specs.declared.Answer.{Answer}
 use Rattle.answers.specs.declared.Answer.the-variants.{WrongLength}
-use Rattle.flight.specs.Envelope.{outsideOf}
-use Rattle.flight.specs.Reflection.{FlightRel, reflectFlight}
+use Rattle.flight.specs.Reflection.{FlightRel, TickRel, reflectFlight}
 use Rattle.flight.specs.declared.Flight.{Flight}
 use Rattle.flight.specs.declared.Tick.{Tick}
 use Rattle.arrays.specs.Airframe.{airframeNumbers, airframeNumbersCount, airframeIn}
 use Rattle.arrays.specs.Flight.{flightNumbers, flightIn, stateNumbersCount, tickIn, tickNumbers, tickNumbersCount}
-use Rattle.run.specs.Mirrored.{Mirrored}
-use Rattle.run.specs.Run.{ended, isWhole, ranOf, reflectTrace}
+use Rattle.run.specs.Calls.{Chain, Each}
+use Rattle.run.specs.Mirrored.{AcceptedAirframe, AcceptedState, Demand3, MirroredFlights}
+use Rattle.run.specs.Run.{Told, ended, isWhole, ranOf, reflectTrace}
 use Rattle.run.specs.declared.Ran.{Ran}
 use Rattle.state_block.specs.Layout.{readStateOf, readTickOf, stateBytes, tickBytes, writeAnswer, writtenState, writtenTick}
 use Rattle.wing.specs.Tick.{refusedOf, tickOf}
@@ -152,11 +153,26 @@ pub record ArrayCall (call : List Float → List Float → List Float → TickOu
   pub answered : o ≡ call state t report
   pub left : after ≡ o .state
 
--- an outcome tells what the definition's call gives: its answer and place, its state and its report
-pub record Tells (o : TickOutcome) (k : Ticked) : Type 0 where
-  pub reply : o .reply ≡ replyOf (k .report .answer)
-  pub state : flightIn (o .state) ≡ k .flight
-  pub report : o .report ≡ reportNumbers (k .report)
+-- what an outcome tells: the reply's answer and place, the report's three numbers, and the state in its array
+unfoldable pub toldIn : TickOutcome → Told
+toldIn o = record {
+  answer = o .reply % 16;
+  place = o .reply / 16;
+  alpha = getD (o .report) 0 nan;
+  beta = getD (o .report) 1 nan;
+  thrust = getD (o .report) 2 nan;
+  state = flightIn (o .state);
+}
+
+-- Demand 3 of two chains of such calls, from the array `found` with A and from `found'` with A', where A', that array and its ticks
+-- are the first ones with left and right exchanged, number for number (run/specs/Mirrored.antt)
+abbrev pub ArrayCallsMirror : (call call' : List Float → List Float → List Float → TickOutcome) → Airframe → Airframe → List Float → Type 0
+ArrayCallsMirror call call' a a' found =
+    AcceptedState (flightIn found) → (found' : List Float) (us us' : List (List Float)) (os os' : List TickOutcome) (z z' : List Float)
+    → AirframeRel a a' → FlightRel (flightIn found) (flightIn found') → Each TickRel (map tickIn us) (map tickIn us')
+    → Chain (ArrayCall call) found us os z → Chain (ArrayCall call') found' us' os' z'
+    → MirroredFlights a a' (flightIn found) (flightIn found') (map tickIn us) (map tickIn us') (map toldIn os) (map toldIn os') (flightIn z)
+    (flightIn z')
 
 -- ---- a run, and the mirrored pair
 
@@ -221,9 +237,15 @@ mirroredPair block state reflected trace =
     (record { reply = wrongLength; state = state; reflected = reflected; accepted = 0; acceptedReflected = 0 })
 
 -- Demand 3 of what a pair that is done leaves: the end states in the two arrays are each other's reflections number for number, and
--- the counts are equal; and where the state that was found is accepted, all of demand 3 holds of the block's airframe and that state,
--- over every list of ticks (run/specs/Mirrored.antt).
+-- the counts are equal; demand 3 of the block's airframe, which is accepted, and of the state that was found; and the same of chains
+-- of bench_tick, with any other block that is read as the reflected airframe, and of bench_tick_prepared, with any two airframe arrays.
 pub record PairMirrors (block : List ℕ) (found state reflected : List Float) (accepted acceptedReflected : ℕ) : Type 0 where
   pub states : FlightRel (flightIn state) (flightIn reflected)
   pub count : acceptedReflected ≡ accepted
-  pub theorem : outsideOf (flightIn found) ≡ 0 → (ts : List Tick) → Mirrored (readAirframeOf block .airframe) (flightIn found) ts
+  pub airframe : AcceptedAirframe (readAirframeOf block .airframe)
+  pub theorem : Demand3 (readAirframeOf block .airframe) (flightIn found)
+  pub block-calls : (block' : List ℕ) → isDone (readAirframeOf block' .answer) ≡ true
+      → ArrayCallsMirror (tick block) (tick block') (readAirframeOf block .airframe) (readAirframeOf block' .airframe) found
+  pub prepared-calls : (p p' : List Float) → length p ≡ airframeNumbersCount → length p' ≡ airframeNumbersCount
+      → airframeIn p ≡ readAirframeOf block .airframe
+      → ArrayCallsMirror (tickPrepared p) (tickPrepared p') (airframeIn p) (airframeIn p') found

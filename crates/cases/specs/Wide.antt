@@ -7,12 +7,12 @@ use Rattle.aero.specs.Coefficients.{stallBlend}
 use Rattle.fixed_wing.specs.declared.AeroCoefficients.{AeroCoefficients}
 use Rattle.float.specs.Interval.{Within}
 use Rattle.float.specs.Notation.{nought, one, rounded}
-use Rattle.float.specs.Same.{Rel}
+use Rattle.float.specs.Same.{Same}
 use Rattle.lag.specs.Lag.{approachSaturated}
 
 -- +infinity, running 1: 1, for every factor within 0 and 1
 abbrev pub FullThrottleStays : Type 0
-FullThrottleStays = (factor : Float) → Within nought one factor → Rel false one (approachSaturated one (inf false) nought one nought factor)
+FullThrottleStays = (factor : Float) → Within nought one factor → Same one (approachSaturated one (inf false) nought one nought factor)
 
 -- sharpness 0, of either sign: blend 0.75, for every stall angle of an accepted airframe and every angle of attack within ±4 rad,
 -- beyond which sin and cos are NaN

@@ -20,3 +20,10 @@ flip false x = x
 -- `Rel p x y`: y is the number x (p false) or -x (p true); two zeros are one number, and a NaN is only a NaN
 pub record Rel (p : Bool) (x y : Float) : Type 0 where
   pub same : num y ≡ num (flip p x)
+
+-- the same number, and the opposite one
+abbrev pub Same : Float → Float → Type 0
+Same x y = Rel false x y
+
+abbrev pub Opposite : Float → Float → Type 0
+Opposite x y = Rel true x y

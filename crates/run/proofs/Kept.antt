@@ -3,7 +3,7 @@ use Prim.Native.Nat.{ℕ}
 use lib.Ieee.{Float}
 use mathlib.Core.Bool.{Bool, cond, false, true}
 use mathlib.Core.List.{List, [], _∷_}
-use mathlib.Core.Path.{_∙_, _≡_, ap, refl, sym}
+use mathlib.Core.Path.{_∙_, _≡_, ap, refl}
 use Rattle.airframe.specs.declared.Airframe.{Airframe}
 use Rattle.answers.specs.declared.Answer.the-variants.{Done, WrongLength}
 use Rattle.flight.specs.declared.Flight.{Flight}
@@ -12,10 +12,10 @@ use Rattle.wing.proofs.Lift.{lift-stays}
 use Rattle.wing.proofs.Scales.{scale-stays}
 use Rattle.wing.specs.Tick.{tickOf}
 use Rattle.wing.specs.declared.Ticked.{Ticked}
-use Rattle.run.proofs.Calls.{all-calls, is-its-calls, value-end}
-use Rattle.run.specs.Calls.{Chain, ValueCall}
+use Rattle.run.proofs.Calls.{all-calls, lent-flown, value-flown}
+use Rattle.run.specs.Calls.{Chain, LentCall, ValueCall}
 use Rattle.run.specs.Mirrored.{All}
-use Rattle.run.specs.Run.{Progress, callsOf, ended, isWhole, progressed, ranOf, ranOver, runFrom, runOf, ticksOf}
+use Rattle.run.specs.Run.{Progress, Told, callsOf, ended, isWhole, progressed, ranOf, ranOver, runFrom, runOf, ticksOf}
 
 -- a part of the state that no tick alters
 abbrev pub Stays : Airframe → (Flight → List Float) → Type 0
@@ -25,8 +25,8 @@ module _ (a : Airframe) (part : Flight → List Float) (stays : Stays a part) wh
   abbrev Kept : Flight → Flight → Type 0
   Kept f g = part g ≡ part f
 
-  pub calls-keep : (f : Flight) (ts : List Tick) → All (λ (k : Ticked). Kept f (k .flight)) (callsOf a f ts)
-  calls-keep f ts = all-calls (Kept f) (λ (k : Ticked). Kept f (k .flight)) a (λ g t e. let n = stays g t ∙ e in (n, n)) f ts refl
+  pub calls-keep : (f : Flight) (ts : List Tick) → All (λ (k : Told). Kept f (k .state)) (callsOf a f ts)
+  calls-keep f ts = all-calls (Kept f) (λ (k : Told). Kept f (k .state)) a (λ g t e. let n = stays g t ∙ e in (n, n)) f ts refl
 
   run-from : (p : Progress) (ts : List Tick) → Kept (p .flight) (runFrom a p ts .flight)
   unfolding runFrom progressed
@@ -37,9 +37,12 @@ module _ (a : Airframe) (part : Flight → List Float) (stays : Stays a part) wh
   unfolding runOf
   run-keeps f ts = run-from (record { flight = f; accepted = 0 }) ts
 
-  -- calls by value, and the run over a trace's bytes, whole ticks or not
+  -- calls by value and over a lent record, and the run over a trace's bytes, whole ticks or not
   pub value-keeps : {f h : Flight} {ts : List Tick} {ks : List Ticked} → Chain (ValueCall a) f ts ks h → Kept f h
-  value-keeps {f} {h} {ts} {ks} r = ap part (value-end a r ∙ sym (is-its-calls a f ts .end)) ∙ run-keeps f ts
+  value-keeps {f} {h} {ts} {ks} r = ap part (value-flown a r .end) ∙ run-keeps f ts
+
+  pub lent-keeps : {f h : Flight} {ts : List Tick} {ks : List Ticked} → Chain (LentCall a) f ts ks h → Kept f h
+  lent-keeps {f} {h} {ts} {ks} r = ap part (lent-flown a r .end) ∙ run-keeps f ts
 
   pub ran-keeps : (f : Flight) (s : List ℕ) → Kept f (ranOf a f s .flight)
   unfolding ranOf ranOver ended

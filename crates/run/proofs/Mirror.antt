@@ -2,8 +2,9 @@
 use Prim.Native.Nat.{_+_, ℕ}
 use mathlib.Core.Bool.{Bool, cond, false, true}
 use mathlib.Core.List.{List, [], _∷_, map}
-use mathlib.Core.Path.{_∙_, _≡_, ap, ap₂, refl}
+use mathlib.Core.Path.{_∙_, _≡_, ap, ap₂, refl, sym}
 use borrow.Author.Tests.{eq-eqb, eqb-true}
+use denote.Floats.{is-true}
 use Rattle.airframe.proofs.Mirror.{reflect-airframe}
 use Rattle.airframe.specs.Reflection.{AirframeRel, reflectAirframe}
 use Rattle.airframe.specs.declared.Airframe.{Airframe}
@@ -25,11 +26,11 @@ use Rattle.wing.specs.Reflection.{TickedRel}
 use Rattle.wing.proofs.Running.{Held, Running, Still}
 use Rattle.wing.specs.Tick.{tickOf}
 use Rattle.wing.specs.declared.Ticked.{Ticked}
-use Rattle.run.proofs.Calls.{all-calls, is-its-calls}
+use Rattle.run.proofs.Calls.{all-calls, by-definition, lent-flown, value-flown}
 use Rattle.run.proofs.Turns.{stays-inside}
 use Rattle.run.specs.Calls.{Each, each-more, each-none}
-use Rattle.run.specs.Mirrored.{Agree, All, Angles, InRange, Mirrored, RanRel, Ranges}
-use Rattle.run.specs.Run.{Progress, callsOf, ended, isWhole, oneIfDone, progressed, ranOver, runFrom, runOf}
+use Rattle.run.specs.Mirrored.{AcceptedState, Agree, All, Angles, ByDefinition, Demand3, InRange, Mirrored, MirroredFlights, RanRel, Ranges}
+use Rattle.run.specs.Run.{Progress, Told, callsOf, ended, isWhole, oneIfDone, progressed, ranOver, runFrom, runOf, toldBy}
 
 -- ---- the ticks of a reflected list
 ticks-mirror : (ts : List Tick) → Each TickRel ts (map reflectTick ts)
@@ -37,7 +38,7 @@ ticks-mirror [] = each-none
 ticks-mirror (t ∷ ts) = each-more (reflect-tick t) (ticks-mirror ts)
 
 -- ---- one tick
-agree : {k k' : Ticked} → TickedRel k k' → Agree k k'
+agree : {k k' : Ticked} → TickedRel k k' → Agree (toldBy k) (toldBy k')
 agree h = record {
   answer = ap numberOf (h .report .answer);
   place = ap placeOf (h .report .answer);
@@ -111,8 +112,8 @@ stays-accepted a f t o = eqb-true _ _ (stays-inside a f t (eq-eqb _ _ o))
 abbrev Kept : Airframe → Flight → Flight → Type 0
 Kept a start f = (outsideOf f ≡ 0) × Held f × Running f × Still a start f
 
-ranges-from : (a : Airframe) (start f : Flight) (ts : List Tick) → Kept a start f → All (λ (k : Ticked). InRange a start (k .flight)) (callsOf a f ts)
-ranges-from a start = all-calls (Kept a start) (λ (k : Ticked). InRange a start (k .flight)) a
+ranges-from : (a : Airframe) (start f : Flight) (ts : List Tick) → Kept a start f → All (λ (k : Told). InRange a start (k .state)) (callsOf a f ts)
+ranges-from a start = all-calls (Kept a start) (λ (k : Told). InRange a start (k .state)) a
     (λ f t k.
     let o = stays-accepted a f t (k .0) in
     let n = tick-keeps a f t (k .1) (k .2) in
@@ -120,32 +121,44 @@ ranges-from a start = all-calls (Kept a start) (λ (k : Ticked). InRange a start
     ((o, n .held, n .running, u), in-range a start (tickOf a f t .flight) o (n .running) u))
 
 -- the angles, of any run
-angles-from : (a : Airframe) (f : Flight) (ts : List Tick) → All (λ (k : Ticked). Angles (k .report)) (callsOf a f ts)
-angles-from a f ts = all-calls (λ (g : Flight). Unit {0}) (λ (k : Ticked). Angles (k .report)) a (λ g t u. let x = tick-angles a g t in (tt, record { alpha = x .0; beta = x .1 })) f ts tt
+angles-from : (a : Airframe) (f : Flight) (ts : List Tick) → All Angles (callsOf a f ts)
+angles-from a f ts = all-calls (λ (g : Flight). Unit {0}) Angles a (λ g t u. let x = tick-angles a g t in (tt, record { alpha = is-true _ (x .0); beta = is-true _ (x .1) })) f ts tt
 
-pub ranges : (a : Airframe) (s : Flight) (ts : List Tick) → outsideOf s ≡ 0 → Held s → Ranges a s ts
+ranges : (a : Airframe) (s : Flight) (ts : List Tick) → AcceptedState s → Held s → Ranges a s (callsOf a s ts)
 ranges a s ts o g =
     let r = accepted-running s o in
     let still : Still a s s = record { motors = still-same _ _; scale = refl; lift = still-same _ _; unlifted = λ p. refl } in
     record { at-start = in-range a s s o r still; after-each = ranges-from a s s ts (o, g, r, still); angles = angles-from a s ts }
 
--- ---- demand 3. `Held s` is what the type of a state tells: the running values of its motors and lift rotors are 32-bit floats
-pub mirrored : (a : Airframe) (s : Flight) (ts : List Tick) → outsideOf s ≡ 0 → Held s → Mirrored a s ts
-mirrored a s ts o g =
-    let A = reflect-airframe a in
-    let S = reflect-flight s in
-    let T = ticks-mirror ts in
-    let r = run-mirror A S T in
+-- ---- demand 3 of two flights that are demand 2's, whatever calls they were made of. `Held s` is what the type of a state tells: the
+-- running values of its motors and lift rotors are 32-bit floats
+held-too : {s s' : Flight} → FlightRel s s' → Held s → Held s'
+held-too k g = record { motors = rw (k .motors) (g .motors); lift = rw (k .lift) (g .lift) }
+
+pub flights-mirror : {a a' : Airframe} {s s' : Flight} {ts ts' : List Tick} {ks ks' : List Told} {g g' : Flight} → AirframeRel a a' → FlightRel s s' → Each TickRel ts ts' → AcceptedState s → Held s
+    → ByDefinition a s ts ks g → ByDefinition a' s' ts' ks' g' → MirroredFlights a a' s s' ts ts' ks ks' g g'
+flights-mirror {a} {a'} {s} {s'} {ts} {ts'} h k w o held p q =
+    let r = run-mirror h k w in
     record {
-      calls = is-its-calls a s ts;
-      calls-reflected = is-its-calls (reflectAirframe a) (reflectFlight s) (map reflectTick ts);
-      each-tick = calls-mirror A S T;
-      at-start = S;
-      at-end = r .0;
-      count = r .1;
-      ranges = ranges a s ts o g;
-      ranges-reflected = ranges (reflectAirframe a) (reflectFlight s) (map reflectTick ts) (outside-is S ∙ o) (held-reflected s g);
+      first = p;
+      second = q;
+      at-start = k;
+      each-tick = rw (p .calls, q .calls) (calls-mirror h k w);
+      at-end = rw (p .end, q .end) (r .0);
+      count = q .count ∙ r .1 ∙ sym (p .count);
+      ranges = rw (p .calls) (ranges a s ts o held);
+      ranges-reflected = rw (q .calls) (ranges a' s' ts' (outside-is k ∙ o) (held-too k held));
     }
+
+-- ---- demand 3
+pub demand3 : (a : Airframe) (s : Flight) → Held s → Demand3 a s
+demand3 a s held = record {
+  value-calls = λ e o ts ks ks' g g' r r'. of-reflections o ts (value-flown a r) (value-flown (reflectAirframe a) r');
+  lent-calls = λ e o ts ks ks' g g' r r'. of-reflections o ts (lent-flown a r) (lent-flown (reflectAirframe a) r');
+  flights = λ e o a' s' ts ts' ks ks' g g' h k w p q. flights-mirror h k w o held p q;
+  run = λ e o ts. of-reflections o ts (by-definition a s ts) (by-definition (reflectAirframe a) (reflectFlight s) (map reflectTick ts));
+}
   where
-    held-reflected : (s : Flight) → Held s → Held (reflectFlight s)
-    held-reflected s g = unfold reflectFlight in record { motors = g .motors; lift = g .lift }
+    of-reflections : AcceptedState s → (ts : List Tick) {ks ks' : List Told} {g g' : Flight} → ByDefinition a s ts ks g → ByDefinition (reflectAirframe a) (reflectFlight s) (map reflectTick ts) ks' g'
+        → Mirrored a s ts ks ks' g g'
+    of-reflections o ts p q = flights-mirror (reflect-airframe a) (reflect-flight s) (ticks-mirror ts) o held p q

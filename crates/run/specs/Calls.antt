@@ -13,13 +13,20 @@ pub data Each {X Y : Type 0} (R : X → Y → Type 0) : List X → List Y → Ty
   each-none : Each R [] []
   each-more : {x : X} {y : Y} {xs : List X} {ys : List Y} → R x y → Each R xs ys → Each R (x ∷ xs) (y ∷ ys)
 
--- `Call x t o y`: a call that finds x and is given t answers o and leaves y. A chain: the ticks, each one's answer, what is left last
-pub data Chain {X T O : Type 0} (Call : X → T → O → X → Type 0) : X → List T → List O → X → Type 0 where
+-- `Call x u o y`: a call that finds x and is given u answers o and leaves y. A chain: what the calls are given, what each one
+-- answers, what is left last
+pub data Chain {X U O : Type 0} (Call : X → U → O → X → Type 0) : X → List U → List O → X → Type 0 where
   chain-none : {x : X} → Chain Call x [] [] x
-  chain-more : {x y z : X} {t : T} {o : O} {ts : List T} {os : List O}
-      → Call x t o y → Chain Call y ts os z → Chain Call x (t ∷ ts) (o ∷ os) z
+  chain-more : {x y z : X} {u : U} {o : O} {us : List U} {os : List O}
+      → Call x u o y → Chain Call y us os z → Chain Call x (u ∷ us) (o ∷ os) z
 
 -- the call by value, `wing::tick`: its answer is the report and the state it hands back, which the caller gives to the next
 pub record ValueCall (a : Airframe) (f : Flight) (t : Tick) (k : Ticked) (g : Flight) : Type 0 where
   pub answered : k ≡ tickOf a f t
   pub left : g ≡ k .flight
+
+-- the call over a lent record, `lent_tick::tick_in_place`: its report, and what the record holds afterwards, which the next call finds
+pub record LentCall (a : Airframe) (f : Flight) (t : Tick) (k : Ticked) (g : Flight) : Type 0 where
+  pub reported : k .report ≡ tickOf a f t .report
+  pub left : g ≡ tickOf a f t .flight
+  pub found : k .flight ≡ g

@@ -2,35 +2,33 @@
 --
 -- A is any accepted airframe, S any accepted state, T any list of ticks, whatever their bits, also such as are refused. A', S'
 -- and T' are A, S and T with left and right exchanged by sign bits: the torques of motors and lift rotors and the weights in roll
--- and yaw, position, velocity and wind in east, the attitude in i and k, the rates in p and r. One run flies T with A from S, the
--- other T' with A' from S'; a tick starts from what the tick before it handed back. `callsOf` is each call's report and state,
+-- and yaw, position, velocity and wind in east, the attitude in i and k, the rates in p and r. One flight goes over T with A from S,
+-- the other over T' with A' from S'; a tick starts from what the tick before it handed back. `callsOf` is what each call tells,
 -- `runOf` a run's last state and count, `ranOf` the run that gets all bytes of a trace at once: all by demand 2's definition
--- (Run.antt). Definitions only.
+-- (Run.antt). `Same` and `Opposite` compare numbers as results are, 0 and -0 as one. The claim is `Demand3`; what stands before it
+-- are its words. Definitions only.
 use Prim.Native.Nat.{_<_, ℕ}
-use lib.Dec.{T}
 use lib.Ieee.Scale.{finite}
 use mathlib.Core.Bool.{false, true}
 use mathlib.Core.List.{List, [], _∷_, map}
 use mathlib.Core.Path.{_≡_}
 use Rattle.air.specs.Density.{densityOf, lastRow}
 use Rattle.airframe.specs.Acceptance.{refusedPlace}
-use Rattle.airframe.specs.Reflection.{reflectAirframe}
+use Rattle.airframe.specs.Reflection.{AirframeRel, reflectAirframe}
 use Rattle.airframe.specs.declared.Airframe.{Airframe}
-use Rattle.answers.specs.Answers.{numberOf, placeOf}
 use Rattle.flight.specs.Envelope.{outsideOf}
-use Rattle.flight.specs.Reflection.{FlightRel, reflectFlight, reflectTick}
+use Rattle.flight.specs.Reflection.{FlightRel, TickRel, reflectFlight, reflectTick}
 use Rattle.flight.specs.declared.Flight.{Flight}
 use Rattle.flight.specs.declared.Tick.{Tick}
 use Rattle.float.specs.Interval.{Within}
 use Rattle.float.specs.Notation.{minusOne, nought, one}
-use Rattle.float.specs.Same.{Rel}
+use Rattle.float.specs.Same.{Opposite, Same}
 use Rattle.mixers.specs.Slots.{at}
 use Rattle.motors.specs.Running.{MotorsInRange}
 use Rattle.wing.specs.Tick.{densityFor}
-use Rattle.wing.specs.declared.Report.{Report}
 use Rattle.wing.specs.declared.Ticked.{Ticked}
-use Rattle.run.specs.Calls.{Each}
-use Rattle.run.specs.Run.{acceptedIn, callsOf, ranOf, reflectTrace, runOf, stateAfter, ticksOf}
+use Rattle.run.specs.Calls.{Chain, Each, LentCall, ValueCall}
+use Rattle.run.specs.Run.{Told, acceptedIn, callsOf, ranOf, reflectTrace, runOf, ticksOf, toldBy}
 use Rattle.run.specs.declared.Pair.{Pair}
 use Rattle.run.specs.declared.Ran.{Ran}
 
@@ -39,17 +37,24 @@ pub data All {X : Type 0} (P : X → Type 0) : List X → Type 0 where
   all-none : All P []
   all-more : {x : X} {xs : List X} → P x → All P xs → All P (x ∷ xs)
 
--- one tick in both runs; with the state that it leaves, the air's density at the height where the next tick starts (02, 6)
-pub record Agree (k k' : Ticked) : Type 0 where
-  pub answer : numberOf (k' .report .answer) ≡ numberOf (k .report .answer)
-  pub place : placeOf (k' .report .answer) ≡ placeOf (k .report .answer)
-  pub alpha : Rel false (k .report .«alpha_rad») (k' .report .«alpha_rad»)
-  pub thrust : Rel false (k .report .«thrust_n») (k' .report .«thrust_n»)
-  pub beta : Rel true (k .report .«beta_rad») (k' .report .«beta_rad»)
-  pub state : FlightRel (k .flight) (k' .flight)
-  pub density : densityFor (k' .flight) ≡ densityFor (k .flight)
+-- an airframe is accepted if 6 does not hold of it, a state if 7 does not
+abbrev pub AcceptedAirframe : Airframe → Type 0
+AcceptedAirframe a = refusedPlace a ≡ 0
 
--- the running values of a state, in a run that began at `start`: a used motor's in 0..1, an unused one's that of `start`, a
+abbrev pub AcceptedState : Flight → Type 0
+AcceptedState s = outsideOf s ≡ 0
+
+-- one tick in both flights; with the state that it leaves, the air's density at the height where the next tick starts (02, 6)
+pub record Agree (k k' : Told) : Type 0 where
+  pub answer : k' .answer ≡ k .answer
+  pub place : k' .place ≡ k .place
+  pub alpha : Same (k .alpha) (k' .alpha)
+  pub thrust : Same (k .thrust) (k' .thrust)
+  pub beta : Opposite (k .beta) (k' .beta)
+  pub state : FlightRel (k .state) (k' .state)
+  pub density : densityFor (k' .state) ≡ densityFor (k .state)
+
+-- the running values of a state, in a flight that began at `start`: a used motor's in 0..1, an unused one's that of `start`, a
 -- surface's in -1..1; the thrust scales, in 0..1 and those of `start` (02, 2); and of the lift rotors the same as of the motors, a
 -- rotor being used or not within its own group, and without lift numbers all as at `start` (02, 5); and the density of the air at
 -- its height, between those of the table's last row and its first, 0.7361 and 1.3470 (02, 6)
@@ -62,33 +67,67 @@ pub record InRange (a : Airframe) (start f : Flight) : Type 0 where
   pub unlifted : a .«lift_present» ≡ false → f .«lift_motors» ≡ start .«lift_motors»
   pub density : Within (densityOf lastRow) (densityOf 0) (densityFor f)
 
--- the angles of a report are numbers, neither a NaN nor infinite (02, 1)
-pub record Angles (r : Report) : Type 0 where
-  pub alpha : T (finite (r .«alpha_rad»))
-  pub beta : T (finite (r .«beta_rad»))
+-- the angles that a call reports are numbers, neither a NaN nor infinite (02, 1)
+pub record Angles (k : Told) : Type 0 where
+  pub alpha : finite (k .alpha) ≡ true
+  pub beta : finite (k .beta) ≡ true
 
--- one run: before its first tick and after every tick the running values, the scales and the density are in range, and every
+-- one flight: before its first tick and after every tick the running values, the scales and the density are in range, and every
 -- report's angles are numbers
-pub record Ranges (a : Airframe) (s : Flight) (ts : List Tick) : Type 0 where
+pub record Ranges (a : Airframe) (s : Flight) (ks : List Told) : Type 0 where
   pub at-start : InRange a s s
-  pub after-each : All (λ (k : Ticked). InRange a s (k .flight)) (callsOf a s ts)
-  pub angles : All (λ (k : Ticked). Angles (k .report)) (callsOf a s ts)
+  pub after-each : All (λ (k : Told). InRange a s (k .state)) ks
+  pub angles : All Angles ks
 
--- the run called once is its calls: its last state is the one that the last call handed back, its count how many answered 0
-pub record IsItsCalls (a : Airframe) (s : Flight) (ts : List Tick) : Type 0 where
-  pub end : runOf a s ts .flight ≡ stateAfter s (callsOf a s ts)
-  pub count : runOf a s ts .accepted ≡ acceptedIn (callsOf a s ts)
+-- one flight is demand 2's: what its calls told, the state that it left last, and how many ticks were accepted, call by call and
+-- where the run is called once
+pub record ByDefinition (a : Airframe) (s : Flight) (ts : List Tick) (ks : List Told) (g : Flight) : Type 0 where
+  pub calls : ks ≡ callsOf a s ts
+  pub end : g ≡ runOf a s ts .flight
+  pub count : acceptedIn ks ≡ runOf a s ts .accepted
 
--- demand 3, one named field a clause
-pub record Mirrored (a : Airframe) (s : Flight) (ts : List Tick) : Type 0 where
-  pub calls : IsItsCalls a s ts
-  pub calls-reflected : IsItsCalls (reflectAirframe a) (reflectFlight s) (map reflectTick ts)
-  pub each-tick : Each Agree (callsOf a s ts) (callsOf (reflectAirframe a) (reflectFlight s) (map reflectTick ts))
-  pub at-start : FlightRel s (reflectFlight s)
-  pub at-end : FlightRel (runOf a s ts .flight) (runOf (reflectAirframe a) (reflectFlight s) (map reflectTick ts) .flight)
-  pub count : runOf (reflectAirframe a) (reflectFlight s) (map reflectTick ts) .accepted ≡ runOf a s ts .accepted
-  pub ranges : Ranges a s ts
-  pub ranges-reflected : Ranges (reflectAirframe a) (reflectFlight s) (map reflectTick ts)
+-- two flights, one with left and right exchanged: ks and ks' are what their calls told, g and g' the states they left last
+pub record MirroredFlights (a a' : Airframe) (s s' : Flight) (ts ts' : List Tick) (ks ks' : List Told) (g g' : Flight) : Type 0 where
+  pub first : ByDefinition a s ts ks g
+  pub second : ByDefinition a' s' ts' ks' g'
+  pub at-start : FlightRel s s'
+  pub each-tick : Each Agree ks ks'
+  pub at-end : FlightRel g g'
+  pub count : acceptedIn ks' ≡ acceptedIn ks
+  pub ranges : Ranges a s ks
+  pub ranges-reflected : Ranges a' s' ks'
+
+-- the flight of T from S with A, and that of T' from S' with A'
+abbrev pub Mirrored : Airframe → Flight → List Tick → List Told → List Told → Flight → Flight → Type 0
+Mirrored a s ts ks ks' g g' = MirroredFlights a (reflectAirframe a) s (reflectFlight s) ts (map reflectTick ts) ks ks' g g'
+
+-- what is claimed of any two flights that are demand 2's
+abbrev pub FlightsMirror : Airframe → Flight → Type 0
+FlightsMirror a s =
+    AcceptedAirframe a → AcceptedState s → (a' : Airframe) (s' : Flight) (ts ts' : List Tick) (ks ks' : List Told) (g g' : Flight)
+    → AirframeRel a a' → FlightRel s s' → Each TickRel ts ts'
+    → ByDefinition a s ts ks g → ByDefinition a' s' ts' ks' g'
+    → MirroredFlights a a' s s' ts ts' ks ks' g g'
+
+-- what is claimed of a form of the tick call: of any two chains of such calls that were made, each call fed the state that the last
+-- one left
+abbrev pub CallsMirror : (Airframe → Flight → Tick → Ticked → Flight → Type 0) → Airframe → Flight → Type 0
+CallsMirror Call a s =
+    AcceptedAirframe a → AcceptedState s → (ts : List Tick) (ks ks' : List Ticked) (g g' : Flight)
+    → Chain (Call a) s ts ks g → Chain (Call (reflectAirframe a)) (reflectFlight s) (map reflectTick ts) ks' g'
+    → Mirrored a s ts (map toldBy ks) (map toldBy ks') g g'
+
+-- Demand 3: of tick calls by value and over a lent record; of the run called once, which ends where its calls do and counts those
+-- that answered 0; and of any two flights that are demand 2's, whatever their calls, of airframes, states and ticks that are each
+-- other's reflections number for number. The library's calls over arrays are such (bench_c/specs/Library.antt).
+pub record Demand3 (a : Airframe) (s : Flight) : Type 0 where
+  pub value-calls : CallsMirror ValueCall a s
+  pub lent-calls : CallsMirror LentCall a s
+  pub flights : FlightsMirror a s
+  pub run : AcceptedAirframe a → AcceptedState s → (ts : List Tick)
+      → Mirrored a s ts
+      (callsOf a s ts) (callsOf (reflectAirframe a) (reflectFlight s) (map reflectTick ts))
+      (runOf a s ts .flight) (runOf (reflectAirframe a) (reflectFlight s) (map reflectTick ts) .flight)
 
 -- what two runs called once hand back: the same answer, states that are each other's reflections, equal counts
 pub record RanRel (r r' : Ran) : Type 0 where
@@ -97,11 +136,11 @@ pub record RanRel (r r' : Ran) : Type 0 where
   pub count : r' .accepted ≡ r .accepted
 
 -- What `mirrored_pair` promises of the two runs it flies over the bytes of T: both are demand 2's, the second over the bytes with
--- each wind east's sign bit flipped, which are the bytes of T'; what they hand back mirrors; and where A and S are accepted, all of
--- demand 3 holds, over the trace's ticks and over every other list.
+-- each wind east's sign bit flipped, which are the bytes of T'; what they hand back mirrors; and demand 3 of A and S, over the
+-- trace's ticks and over every other list.
 pub record Flown (a : Airframe) (s : Flight) (trace : List ℕ) (r : Pair) : Type 0 where
   pub first : r .first ≡ ranOf a s trace
   pub second : r .second ≡ ranOf (reflectAirframe a) (reflectFlight s) (reflectTrace trace)
   pub ticks : ticksOf (reflectTrace trace) ≡ map reflectTick (ticksOf trace)
   pub ends : RanRel (r .first) (r .second)
-  pub mirrored : refusedPlace a ≡ 0 → outsideOf s ≡ 0 → (ts : List Tick) → Mirrored a s ts
+  pub demand3 : Demand3 a s

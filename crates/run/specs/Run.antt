@@ -2,11 +2,12 @@
 -- it handed back, after a refusal too. Definitions only.
 use Prim.Native.Nat.{_%_, _*_, _+_, _/_, suc, zero, ℕ}
 use lib.Dec.{eqb}
+use lib.Ieee.{Float}
 use lib.ListN.{length}
 use mathlib.Core.Bool.{Bool, cond}
 use mathlib.Core.List.{List, [], _∷_}
 use Rattle.airframe.specs.declared.Airframe.{Airframe}
-use Rattle.answers.specs.Answers.{numberOf}
+use Rattle.answers.specs.Answers.{numberOf, placeOf}
 use Rattle.answers.specs.declared.Answer.{Answer}
 use Rattle.answers.specs.declared.Answer.the-variants.{Done, WrongLength}
 use Rattle.flight.specs.declared.Flight.{Flight}
@@ -41,19 +42,36 @@ runFrom a p (t ∷ ts) = runFrom a (progressed a p t) ts
 unfoldable pub runOf : Airframe → Flight → List Tick → Progress
 runOf a f ts = runFrom a (record { flight = f; accepted = 0 }) ts
 
--- each call's report and the state it hands back, in order
-unfoldable pub callsOf : Airframe → Flight → List Tick → List Ticked
+-- ---- call by call
+
+-- what a tick call tells its caller, whatever its form: the answer's number and its place, the report, and the state handed back
+pub record Told : Type 0 where
+  pub answer : ℕ
+  pub place : ℕ
+  pub alpha : Float
+  pub beta : Float
+  pub thrust : Float
+  pub state : Flight
+
+abbrev pub toldBy : Ticked → Told
+toldBy k = record {
+  answer = numberOf (k .report .answer);
+  place = placeOf (k .report .answer);
+  alpha = k .report .«alpha_rad»;
+  beta = k .report .«beta_rad»;
+  thrust = k .report .«thrust_n»;
+  state = k .flight;
+}
+
+-- what each call tells, in order
+unfoldable pub callsOf : Airframe → Flight → List Tick → List Told
 callsOf a f [] = []
-callsOf a f (t ∷ ts) = tickOf a f t ∷ callsOf a (tickOf a f t .flight) ts
+callsOf a f (t ∷ ts) = toldBy (tickOf a f t) ∷ callsOf a (tickOf a f t .flight) ts
 
--- what the calls tell of the run: how many answered 0, and the last call's state
-unfoldable pub acceptedIn : List Ticked → ℕ
+-- how many of the calls answered 0
+unfoldable pub acceptedIn : List Told → ℕ
 acceptedIn [] = 0
-acceptedIn (k ∷ ks) = oneIfDone (k .report .answer) + acceptedIn ks
-
-unfoldable pub stateAfter : Flight → List Ticked → Flight
-stateAfter f [] = f
-stateAfter f (k ∷ ks) = stateAfter (k .flight) ks
+acceptedIn (k ∷ ks) = cond (eqb (k .answer) 0) 1 0 + acceptedIn ks
 
 -- ---- over a trace's bytes: whole ticks
 abbrev pub isWhole : List ℕ → Bool

@@ -4,22 +4,22 @@ use mathlib.Core.Bool.{false, true}
 use mathlib.Core.Path.{_≡_}
 use Rattle.body.specs.Reflection.{LoadsRel}
 use Rattle.flight.specs.Reflection.{FlightRel}
-use Rattle.float.specs.Same.{Rel}
+use Rattle.float.specs.Same.{Opposite, Same}
 use Rattle.wing.specs.declared.Loaded.{Loaded}
 use Rattle.wing.specs.declared.Report.{Report}
 use Rattle.wing.specs.declared.Ticked.{Ticked}
 
 pub record LoadedRel (l l' : Loaded) : Type 0 where
   pub loads : LoadsRel (l .loads) (l' .loads)
-  pub alpha : Rel false (l .«alpha_rad») (l' .«alpha_rad»)
-  pub beta : Rel true (l .«beta_rad») (l' .«beta_rad»)
-  pub thrust : Rel false (l .«thrust_n») (l' .«thrust_n»)
+  pub alpha : Same (l .«alpha_rad») (l' .«alpha_rad»)
+  pub beta : Opposite (l .«beta_rad») (l' .«beta_rad»)
+  pub thrust : Same (l .«thrust_n») (l' .«thrust_n»)
 
 pub record ReportRel (r r' : Report) : Type 0 where
   pub answer : r' .answer ≡ r .answer
-  pub alpha : Rel false (r .«alpha_rad») (r' .«alpha_rad»)
-  pub beta : Rel true (r .«beta_rad») (r' .«beta_rad»)
-  pub thrust : Rel false (r .«thrust_n») (r' .«thrust_n»)
+  pub alpha : Same (r .«alpha_rad») (r' .«alpha_rad»)
+  pub beta : Opposite (r .«beta_rad») (r' .«beta_rad»)
+  pub thrust : Same (r .«thrust_n») (r' .«thrust_n»)
 
 pub record TickedRel (r r' : Ticked) : Type 0 where
   pub report : ReportRel (r .report) (r' .report)

@@ -24,7 +24,7 @@ returns c =
     let d = eq-eqb _ _ (sym (c .before .before .number .ensures) ∙ c .before .if2 .taken) in
     let w = sym (k .before .is-whole .ensures) ∙ k .if1 .taken in
     let p = c .mirrored-pair .ensures in
-    record { first = p .first ∙ simp (d, w); second = p .second ∙ simp (d, w); ends = p .ends; theorem = λ z. p .mirrored }
+    record { first = p .first ∙ simp (d, w); second = p .second ∙ simp (d, w); ends = p .ends; theorem = λ z. p .demand3 }
 
 ended-pair-requires : tie.Need-ended-pair-requires
 ended-pair-requires c κs = search needs

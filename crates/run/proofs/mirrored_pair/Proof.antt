@@ -10,7 +10,7 @@ use Rattle.float.proofs.Held.{field-held}
 use Rattle.float.specs.Bytes.{byteAt}
 use Rattle.wing.proofs.Running.{Held}
 use Rattle.run.proofs.Bytes.{reflected-run, reflected-ticks}
-use Rattle.run.proofs.Mirror.{mirrored, ran-mirror}
+use Rattle.run.proofs.Mirror.{demand3, ran-mirror}
 use Rattle.run.proofs.Turns.{plain-track, reflected-track}
 use Rattle.run.specs.Contracts.{trackRan}
 use Rattle.run.specs.Run.{ranOf, ranOver, ticksOf}
@@ -51,7 +51,7 @@ returns c =
       second = second ∙ sym (reflected-run (reflectAirframe (a .a)) (reflectFlight (a .f)) s bytes);
       ticks = reflected-ticks s bytes;
       ends = rw (first, second) (ran-mirror (a .a) (a .f) s ts);
-      mirrored = λ e o us. mirrored (a .a) (a .f) us o (held (k .before));
+      demand3 = demand3 (a .a) (a .f) (held (k .before));
     }
 
 pub mirrored-pair-spec : {M : Type 1} → statement M

@@ -1,2 +1,0 @@
--- Laws of lent ticks.
-pub mod Runs

@@ -1,2 +1,0 @@
--- Lent ticks, one after the other. Definitions only.
-pub mod Lent
