@@ -51,7 +51,7 @@ pub const ANSWERS: [&str; 11] = [
     "wrong length",
     "the version is not 1",
     "the falloff kind is 2 or 3",
-    "a reserved bit is 1",
+    "a reserved bit is 1, or a lift rotor's bit on a servo's row or without lift numbers",
     "more than 16 rows",
     "a number of the airframe is outside its limits",
     "the state is outside the envelope",

@@ -164,7 +164,9 @@ fn refusals_are_named_in_words() {
     let said = |at, byte| refused(block.clone(), at, byte);
     assert_eq!(said(0, 0x20), "the version is not 1");
     assert_eq!(said(0, 0x18), "the falloff kind is 2 or 3");
-    assert_eq!(said(1, 0x20), "a reserved bit is 1");
+    let bits = "a reserved bit is 1, or a lift rotor's bit on a servo's row or without lift numbers";
+    assert_eq!(said(1, 0x20), bits);
+    assert_eq!(said(block.len() - 13, block[block.len() - 13] | 0x08), bits);
     assert_eq!(said(1, 0x11), "more than 16 rows");
     assert_eq!(said(1, 0x00), "wrong length");
     assert_eq!(said(2, 0xFF), "a number of the airframe is outside its limits, place 1 (mass_kg)");

@@ -72,17 +72,17 @@ extern "C" {
 #define BENCH_ROW_LIFT 8
 
 /* What the bench answers: BENCH_DONE = 0 and so on, each with its words. */
-#define BENCH_ANSWERS(ANSWER)                                                        \
-    ANSWER(0, DONE, "done")                                                          \
-    ANSWER(1, WRONG_LENGTH, "wrong length")                                          \
-    ANSWER(2, WRONG_VERSION, "the version is not 1")                                 \
-    ANSWER(3, WRONG_FALLOFF, "the falloff kind is 2 or 3")                           \
-    ANSWER(4, RESERVED_BIT, "a reserved bit is 1")                                   \
-    ANSWER(5, TOO_MANY_ROWS, "more than 16 rows")                                    \
-    ANSWER(6, NUMBER_OUT_OF_RANGE, "a number of the airframe is outside its limits") \
-    ANSWER(7, STATE_OUTSIDE, "the state is outside the envelope")                    \
-    ANSWER(8, STEP_OUTSIDE, "the step is not within 1/1024..0.02 s")                 \
-    ANSWER(9, DEPARTURE, "the next state would be outside the envelope (departure)") \
+#define BENCH_ANSWERS(ANSWER)                                                                                      \
+    ANSWER(0, DONE, "done")                                                                                        \
+    ANSWER(1, WRONG_LENGTH, "wrong length")                                                                        \
+    ANSWER(2, WRONG_VERSION, "the version is not 1")                                                               \
+    ANSWER(3, WRONG_FALLOFF, "the falloff kind is 2 or 3")                                                         \
+    ANSWER(4, RESERVED_BIT, "a reserved bit is 1, or a lift rotor's bit on a servo's row or without lift numbers") \
+    ANSWER(5, TOO_MANY_ROWS, "more than 16 rows")                                                                  \
+    ANSWER(6, NUMBER_OUT_OF_RANGE, "a number of the airframe is outside its limits")                               \
+    ANSWER(7, STATE_OUTSIDE, "the state is outside the envelope")                                                  \
+    ANSWER(8, STEP_OUTSIDE, "the step is not within 1/1024..0.02 s")                                               \
+    ANSWER(9, DEPARTURE, "the next state would be outside the envelope (departure)")                               \
     ANSWER(10, WIND_UNUSABLE, "a component of the wind is a NaN or beyond 200 m/s")
 
 /* The places of answer 6: BENCH_PLACE_MASS_KG = 1 and so on, each with its name. 39 is the motors' time constant, 42 to 48 are

@@ -11,6 +11,7 @@ pub mod Truncation
 pub mod Lists
 pub mod Tests
 pub mod Mirror
+pub mod Equal
 pub mod Patterns
 pub mod Integers
 pub mod Differences

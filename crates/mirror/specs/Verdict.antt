@@ -6,7 +6,7 @@ use Rattle.mirror.specs.declared.verdict.Verdict.{Verdict}
 use Rattle.mirror.specs.declared.verdict.Verdict.the-variants.{DifferFrom, Mirror, MirrorSoFar, NoneAccepted}
 
 -- by how many ticks the flight accepted, the first tick that does not mirror (0 for none), and whether the last tick is cut
--- short: the tracks mirror only where a tick was accepted, none differs and none is cut
+-- short: they mirror only where a tick was accepted, none differs and none is cut
 unfoldable pub verdictOf : ℕ → ℕ → Bool → Verdict
 verdictOf accepted differs cut =
     cond (eqb differs 0) (cond (eqb accepted 0) NoneAccepted (cond cut MirrorSoFar Mirror)) (DifferFrom differs)

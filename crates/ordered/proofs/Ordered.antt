@@ -83,7 +83,7 @@ pass-each ok (suc n) e k l = go (λ p. pass-each ok n (both (ok n) (allPass ok n
 pub pass-none : (ok : ℕ → Bool) (n : ℕ) → allPass ok n ≡ true → firstFail ok 0 n ≡ 0
 pass-none ok n e = none-fails ok 0 n (λ k l. pass-each ok n e k (omega (arith, l)))
 
-each-pass : (ok : ℕ → Bool) (n : ℕ) → ((k : ℕ) → k < n → ok k ≡ true) → allPass ok n ≡ true
+pub each-pass : (ok : ℕ → Bool) (n : ℕ) → ((k : ℕ) → k < n → ok k ≡ true) → allPass ok n ≡ true
 unfolding allPass
 each-pass ok zero h = refl
 each-pass ok (suc n) h = rw (h n (omega arith)) (each-pass ok n (λ k l. h k (omega (arith, l))))

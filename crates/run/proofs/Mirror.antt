@@ -38,7 +38,7 @@ ticks-mirror [] = each-none
 ticks-mirror (t ∷ ts) = each-more (reflect-tick t) (ticks-mirror ts)
 
 -- ---- one tick
-agree : {k k' : Ticked} → TickedRel k k' → Agree (toldBy k) (toldBy k')
+pub agree : {k k' : Ticked} → TickedRel k k' → Agree (toldBy k) (toldBy k')
 agree h = record {
   answer = ap numberOf (h .report .answer);
   place = ap placeOf (h .report .answer);

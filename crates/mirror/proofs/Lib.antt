@@ -1,0 +1,3 @@
+-- Laws of the comparison.
+pub mod Numbers
+pub mod Theorem
