@@ -29,16 +29,16 @@ unequal-nan x h = go (isNan x) refl
     go true e = nan-is x e
     go false e = absurd (true≢false (sym h ∙ equals-itself x e))
 
+both-nan : sameNumber nan nan ≡ true
+unfolding sameNumber ne eq
+both-nan = refl
+
 pub same-holds : {x y : Float} → Same x y → sameNumber x y ≡ true
 unfolding sameNumber
 same-holds {x} {y} h = go (isNan x) refl
   where
-    nans : sameNumber nan nan ≡ true
-    unfolding ne eq
-    nans = refl
-
     go : (b : Bool) → isNan x ≡ b → cond (ne x x) (ne y y) (eq x y) ≡ true
-    go true e = rw (nan-is x e, nan-is y (rel-nan h ∙ e)) nans
+    go true e = rw (nan-is x e, nan-is y (rel-nan h ∙ e)) both-nan
     go false e = rw (equals-itself x e) (eq-comm x y ∙ rel-equal h e)
 
 pub opposite-holds : {x y : Float} → Opposite x y → sameNumber (neg x) y ≡ true

@@ -44,9 +44,9 @@ use Rattle.mirror.specs.Tracks.{Tracks, tracksAfter, tracksAtStart, trac
 both-hold : {a b : Bool} → a ≡ true → b ≡ true → both a b ≡ true
 both-hold e d = rw (e, d)
 
-hold-both : {a b : Bool} → both a b ≡ true → (a ≡ true) × (b ≡ true)
-hold-both {a} {true} h = (h, refl)
-hold-both {a} {false} h = absurd (true≢false (sym h))
+hold-both : (a b : Bool) → both a b ≡ true → (a ≡ true) × (b ≡ true)
+hold-both a true h = (h, refl)
+hold-both a false h = absurd (true≢false (sym h))
 
 -- ---- where the theorem's clauses hold, the program's tests do
 vec-holds : {v w : Vec3} → VecRel false v w → sameVec (reflectVec v) w ≡ true
@@ -73,9 +73,9 @@ flight-holds : {f g : Flight} → FlightRel f g → sameFlight (reflectFlight f)
 unfolding sameFlight reflectFlight
 flight-holds h = both-hold (body-holds (h .body)) (both-hold (both-hold (slots-hold (h .motors)) (slots-hold (h .servos))) (both-hold (slots-hold (h .scale)) (slots-hold (h .lift))))
 
-pub agree-mirrored : {k l : Ticked} → Agree (toldBy k) (toldBy l) → mirroredTick k l ≡ true
+pub agree-mirrored : (k l : Ticked) → Agree (toldBy k) (toldBy l) → mirroredTick k l ≡ true
 unfolding mirroredTick mirroredReport
-agree-mirrored h =
+agree-mirrored k l h =
     both-hold
     (both-hold (both-hold (eq-eqb _ _ (sym (h .answer))) (same-holds (h .alpha))) (both-hold (same-holds (h .thrust)) (opposite-holds (h .beta))))
     (flight-holds (h .state))
@@ -116,34 +116,34 @@ pub record Compared (k l : Ticked) : Type 0 where
 
 vec-compared : {v w : Vec3} → sameVec (reflectVec v) w ≡ true → ComparedVec v w
 unfolding sameVec reflectVec
-vec-compared h = let t = hold-both h in let u = hold-both (t .0) in record { x = is-same (u .0); y = is-opposite (u .1); z = is-same (t .1) }
+vec-compared h = let t = hold-both _ _ h in let u = hold-both _ _ (t .0) in record { x = is-same (u .0); y = is-opposite (u .1); z = is-same (t .1) }
 
 axis-compared : {v w : Vec3} → sameVec (reflectAxis v) w ≡ true → ComparedAxis v w
 unfolding sameVec reflectAxis
-axis-compared h = let t = hold-both h in let u = hold-both (t .0) in record { x = is-opposite (u .0); y = is-same (u .1); z = is-opposite (t .1) }
+axis-compared h = let t = hold-both _ _ h in let u = hold-both _ _ (t .0) in record { x = is-opposite (u .0); y = is-same (u .1); z = is-opposite (t .1) }
 
 attitude-compared : {p q : Quaternion} → sameAttitude (reflectQuat p) q ≡ true → ComparedAttitude p q
 unfolding sameAttitude reflectQuat
-attitude-compared h = let t = hold-both h in let u = hold-both (t .0) in let v = hold-both (t .1) in record { w = is-same (u .0); i = is-opposite (u .1); j = is-same (v .0); k = is-opposite (v .1) }
+attitude-compared h = let t = hold-both _ _ h in let u = hold-both _ _ (t .0) in let v = hold-both _ _ (t .1) in record { w = is-same (u .0); i = is-opposite (u .1); j = is-same (v .0); k = is-opposite (v .1) }
 
-slots-compared : {xs ys : List Float} → allPass (sameSlot xs ys) 8 ≡ true → ComparedSlots xs ys
+slots-compared : (xs ys : List Float) → allPass (sameSlot xs ys) 8 ≡ true → ComparedSlots xs ys
 unfolding sameSlot
-slots-compared {xs} {ys} h k l = is-same (pass-each (sameSlot xs ys) 8 h k l)
+slots-compared xs ys h k l = is-same (pass-each (sameSlot xs ys) 8 h k l)
 
-pub mirrored-compared : {k l : Ticked} → mirroredTick k l ≡ true → Compared k l
+pub mirrored-compared : (k l : Ticked) → mirroredTick k l ≡ true → Compared k l
 unfolding mirroredTick mirroredReport sameFlight sameBody reflectFlight reflectBody
-mirrored-compared {k} {l} h =
-    let t = hold-both h in
-    let r = hold-both (t .0) in
-    let r0 = hold-both (r .0) in
-    let r1 = hold-both (r .1) in
-    let f = hold-both (t .1) in
-    let b = hold-both (f .0) in
-    let b0 = hold-both (b .0) in
-    let b1 = hold-both (b .1) in
-    let s = hold-both (f .1) in
-    let s0 = hold-both (s .0) in
-    let s1 = hold-both (s .1) in
+mirrored-compared k l h =
+    let t = hold-both _ _ h in
+    let r = hold-both _ _ (t .0) in
+    let r0 = hold-both _ _ (r .0) in
+    let r1 = hold-both _ _ (r .1) in
+    let f = hold-both _ _ (t .1) in
+    let b = hold-both _ _ (f .0) in
+    let b0 = hold-both _ _ (b .0) in
+    let b1 = hold-both _ _ (b .1) in
+    let s = hold-both _ _ (f .1) in
+    let s0 = hold-both _ _ (s .0) in
+    let s1 = hold-both _ _ (s .1) in
     record {
       answer = sym (eqb-true _ _ (r0 .0));
       alpha = is-same (r0 .1);
@@ -153,10 +153,10 @@ mirrored-compared {k} {l} h =
       velocity = vec-compared (b0 .1);
       attitude = attitude-compared (b1 .0);
       rates = axis-compared (b1 .1);
-      motors = slots-compared (s0 .0);
-      servos = slots-compared (s0 .1);
-      scale = slots-compared (s1 .0);
-      lift = slots-compared (s1 .1);
+      motors = slots-compared _ _ (s0 .0);
+      servos = slots-compared _ _ (s0 .1);
+      scale = slots-compared _ _ (s1 .0);
+      lift = slots-compared _ _ (s1 .1);
     }
 
 -- ---- so no tick of the program's two flights differs
@@ -167,8 +167,10 @@ record Mirroring (p : Tracks) : Type 0 where
 mirroring-on : (a : Airframe) (p : Tracks) (t : Tick) → Mirroring p → Mirroring (tracksOn a p t)
 unfolding tracksOn tracksAfter unlikeOf
 mirroring-on a p t h =
-    let r = tick-mirror (reflect-airframe a) (h .states) (reflect-tick t) in
-    record { states = r .flight; none = rw (h .none, agree-mirrored (agree r)) }
+    let k = tickOf a (p .first) t in
+    let l = tickOf (reflectAirframe a) (p .second) (reflectTick t) in
+    let r : TickedRel k l = tick-mirror (reflect-airframe a) (h .states) (reflect-tick t) in
+    record { states = r .flight; none = rw (h .none, agree-mirrored k l (agree r)) }
 
 mirroring-over : (a : Airframe) (f : Flight) (s : List ℕ) (n : ℕ) → Mirroring (tracksOver a (tracksAtStart f) s n)
 unfolding tracksOver

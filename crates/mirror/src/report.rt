@@ -41,9 +41,17 @@ fn put_verdict(out: &mut [u8; 65536], at: usize, v: Verdict) -> usize
             b"no tick was accepted: nothing to compare",
         ),
         Verdict::Mirror => lines::put_text(out, at, b"this flight and its own reflection mirror"),
-        Verdict::MirrorSoFar => lines::put_text(out, at, b"the whole ticks of this flight and its own reflection mirror"),
+        Verdict::MirrorSoFar => lines::put_text(
+            out,
+            at,
+            b"the whole ticks of this flight and its own reflection mirror",
+        ),
         Verdict::DifferFrom(tick) => {
-            let number = lines::put_text(out, at, b"this flight and its own reflection do not mirror from tick ");
+            let number = lines::put_text(
+                out,
+                at,
+                b"this flight and its own reflection do not mirror from tick ",
+            );
             put_count(out, number, tick, b" on")
         }
     }
