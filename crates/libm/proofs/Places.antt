@@ -1,19 +1,21 @@
--- The places of the table of powers: what stands at each, at which of them an exponent's power stands, that exp reads each of them, and that exp answers what it did when the power was made from its bits. Assumes nothing.
+-- The places of the table of powers: what stands at each, at which of them an exponent's power stands, that exp reads each of them, and that exp answers what it did when the power was made from its bits, for every argument. Assumes nothing.
 use Prim.Native.Nat.{_*_, _+_, _-_, _<_, suc, ℕ}
 use lib.Dec.{leb→le}
-use lib.Ieee.{Float, add, binary32, fin, le, lt, minus, mul, nan, neg, ofBits, ofInt, round, sub, toSigned}
+use lib.Ieee.{Float, add, binary32, fin, inf, le, lt, minus, mul, nan, ne, neg, ofBits, ofInt, round, sub, toSigned}
+use lib.Ieee.Bits.{is-false}
 use lib.IntN.{_+ℤ_, natAbs, negsuc, pos, ℤ}
 use lib.ListN.{getD}
-use mathlib.Core.Bool.{false, true}
+use mathlib.Core.Bool.{cond, false, true}
 use mathlib.Core.Path.{_∙_, _≡_, ap, refl, sym}
 use native.Mathlib.Omega.{arith}
 use Rattle.float.proofs.Bounds.{inside-within}
 use Rattle.float.proofs.Differences.{minus-down, minus-up, sub-minus}
 use Rattle.float.proofs.Lists.{listOf-at, same-at}
+use Rattle.float.proofs.Mirror.{by-test}
 use Rattle.float.specs.Interval.{Within, inside}
 use Rattle.float.specs.Lists.{listFrom, listOf}
-use Rattle.float.specs.Notation.{_⊗_, clamp}
-use Rattle.libm.proofs.Turns.{exp-core, turns-exponent}
+use Rattle.float.specs.Notation.{_⊗_, clamp, nought}
+use Rattle.libm.proofs.Turns.{tested, turns-exponent}
 use Rattle.libm.specs.Contracts.{Exponent}
 use Rattle.libm.specs.Exp.{core, expOf, highest, ln2High, lowest, near-down, near-up, poly, rest, turns}
 use Rattle.libm.specs.Powers.{powerAt, powerCount, powersOfTwo}
@@ -74,6 +76,23 @@ power-as-before k e =
     let p = place k e in
     sym (p .power) ∙ same-at nan powerAt (λ (i : ℕ). ofBits binary32 (suc i * 8388608)) powerCount patterns (p .i) (p .below) ∙ ap (λ (n : ℕ). ofBits binary32 (n * 8388608)) (sym (p .biased))
 
-pub exp-as-before : (x : Float) → Within lowest highest x → expOf x ≡ poly (rest x (turns x)) ⊗ ofBits binary32 (natAbs (turns x +ℤ pos 127) * 8388608)
+-- of an argument from -87 to 88
+within-as-before : (x : Float) → Within lowest highest x → core x (turns x) ≡ poly (rest x (turns x)) ⊗ ofBits binary32 (natAbs (turns x +ℤ pos 127) * 8388608)
 unfolding core
-exp-as-before x w = exp-core x w ∙ ap (λ (p : Float). poly (rest x (turns x)) ⊗ p) (power-as-before (turns x) (turns-exponent x w))
+within-as-before x w = ap (λ (p : Float). poly (rest x (turns x)) ⊗ p) (power-as-before (turns x) (turns-exponent x w))
+
+-- of every argument
+abbrev pub expBefore : Float → Float
+expBefore x =
+    cond (ne x x) nan
+    (cond (lt x lowest) nought
+    (cond (lt highest x) (inf false)
+    (poly (rest x (turns x)) ⊗ ofBits binary32 (natAbs (turns x +ℤ pos 127) * 8388608))))
+
+pub exp-as-before : (x : Float) → expOf x ≡ expBefore x
+unfolding expOf
+exp-as-before x =
+    by-test _≡_ (ne x x) (ne x x) refl (λ n. refl)
+    (λ n. by-test _≡_ (lt x lowest) (lt x lowest) refl (λ l. refl)
+    (λ l. by-test _≡_ (lt highest x) (lt highest x) refl (λ h. refl)
+    (λ h. within-as-before x (tested x (is-false _ n) (is-false _ l) (is-false _ h)))))
