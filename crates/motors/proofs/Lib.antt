@@ -4,3 +4,4 @@ pub mod Mirror
 pub mod Pulls
 pub mod Scales
 pub mod Shares
+pub mod Base
