@@ -30,7 +30,7 @@ use Rattle.run.specs.Mirrored.{ByDefinition}
 use Rattle.run.specs.Run.{toldBy}
 use Rattle.surfaces.specs.Surface.{moveTo}
 use Rattle.wing.proofs.Passed.{of-tick}
-use Rattle.wing.specs.Tick.{liftSpun, liftedOf, movedOf, nextFrom, nextOf, refusedOf, spunOf, steppedOf, tickOf}
+use Rattle.wing.specs.Tick.{liftSpun, liftedOf, movedOf, nextOf, nextWith, refusedOf, spunOf, steppedOf, tickOf}
 use Rattle.wing.specs.declared.Ticked.{Ticked}
 use Rattle.bench_c.specs.Library.{ArrayCall, TickOutcome, isDone, replyOf, reportNumbers, stateAfterTick, tested, tick, tickLengths, tickPrepared, tickedBy, toldIn}
 
@@ -43,13 +43,13 @@ unfolding stateAfterTick refusedOf
 refused-left state x e = rw e refl
 
 -- the lift rotors that spin, or not, are 8 again
-lifted-eight : (a : Airframe) (f : Flight) (commands : List Float) (h : Float) → length (f .«lift_motors») ≡ 8 → length (liftedOf a f commands h) ≡ 8
+lifted-eight : (a : Airframe) (f : Flight) (t : Tick) → length (f .«lift_motors») ≡ 8 → length (liftedOf a f t) ≡ 8
 unfolding liftedOf liftSpun rotorsSpun spinOf
-lifted-eight a f commands h e = either (λ (xs : List Float). length xs ≡ 8) (a .«lift_present») refl e
+lifted-eight a f t e = either (λ (xs : List Float). length xs ≡ 8) (a .«lift_present») refl e
 
 next-left : (a : Airframe) (state : List Float) (f : Flight) (t : Tick) → length (f .«thrust_scale») ≡ 8 → length (f .«lift_motors») ≡ 8 → Left state (nextOf a f t)
-unfolding stateAfterTick nextOf nextFrom steppedOf spunOf movedOf spinOf moveTo
-next-left a state f t e l = flight-again _ refl refl e (lifted-eight a f (t .motors) (t .«step_s») l)
+unfolding stateAfterTick nextWith steppedOf spunOf movedOf spinOf moveTo
+next-left a state f t e l = flight-again _ refl refl e (lifted-eight a f t l)
 
 scales-are-eight : (state : List Float) → length (flightIn state .«thrust_scale») ≡ 8
 unfolding flightIn slotsIn

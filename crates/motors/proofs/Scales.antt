@@ -1,5 +1,4 @@
 -- Motors as built (02, 2): with a scale of 1 a motor's thrust is (max · share) · falloff, and with scales of 1 the group's thrust and torque are the sums of such thrusts. Assumes nothing.
-use Prim.Native.Nat.{_<_, ℕ}
 use lib.Dec.{T}
 use lib.Ieee.{Float, binary32, fits, nan}
 use lib.ListN.{getD-replicate, replicate}

@@ -10,3 +10,4 @@ pub mod Scales
 pub mod Shares
 pub mod Lift
 pub mod Height
+pub mod Base

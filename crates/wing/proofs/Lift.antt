@@ -3,7 +3,7 @@
 -- numbers are the same. Assumes nothing.
 use lib.Dec.{eqb}
 use lib.Ieee.{Float}
-use mathlib.Core.Bool.{Bool, cond, false, true}
+use mathlib.Core.Bool.{Bool, false, true}
 use mathlib.Core.List.{List}
 use mathlib.Core.Path.{_∙_, _≡_, ap, refl}
 use Rattle.airframe.specs.Acceptance.{refusedPlace}
@@ -20,26 +20,27 @@ use Rattle.float.proofs.Mirror.{by-test}
 use Rattle.float.specs.Interval.{inside}
 use Rattle.float.specs.Notation.{_⊗_, nought, one}
 use Rattle.lag.specs.Lag.{stepLeast, stepMost}
-use Rattle.motors.specs.Motor.{lagFactor}
+use Rattle.motors.specs.Motor.{lagFactor, wrenchWith}
 use Rattle.motors.specs.declared.MotorWrench.{MotorWrench}
 use Rattle.surfaces.specs.declared.Surfaces.{Surfaces}
 use Rattle.vector.specs.Rotation.{rotateOf}
 use Rattle.vector.specs.Vector.{addOf, vec, zeroVec}
 use Rattle.vector.specs.declared.Vec3.{Vec3}
 use Rattle.wing.proofs.Passed.{of-tick}
+use Rattle.wing.proofs.Pulls.{Pull, tickAir, tickPull}
 use Rattle.wing.proofs.Range.{lift-unmoved, next-lift}
 use Rattle.wing.specs.Contracts.{beginBy, beginOf, liftFactor}
-use Rattle.wing.specs.Loads.{aeroOf, airOf, loadedBy, loadsOf, loadsUnder, motorsFor, pullOf, surfacesFor, withLift, withThrust}
-use Rattle.wing.specs.Tick.{acceptedTick, densityFor, liftSpun, liftedOf, movedOf, nextFrom, nextOf, refusedOf, spunOf, steppedOf, tickOf, unlessDeparted, windUsable}
+use Rattle.wing.specs.Loads.{aeroOf, loadedBy, loadsOf, loadsUnder, motorsFor, pullOf, surfacesFor, withLift, withThrust}
+use Rattle.wing.specs.Tick.{acceptedTick, densityFor, liftSpun, liftedOf, loadsIn, movedOf, nextWith, refusedOf, spunOf, steppedOf, tickOf, tickWith, unlessDeparted, windUsable}
 use Rattle.wing.specs.declared.Loaded.{Loaded}
 use Rattle.wing.specs.declared.Ticked.{Ticked}
 
 -- the factor that the code keeps, which is 0 without lift numbers, serves as the lag's own
-pub held-factor : (a : Airframe) (f : Flight) (commands : List Float) (h : Float) → liftSpun a f commands (beginOf a h .lift) ≡ liftedOf a f commands h
+pub held-factor : (a : Airframe) (f : Flight) (t : Tick) → liftSpun a f (t .motors) (beginOf a (t .«step_s») .lift) ≡ liftedOf a f t
 unfolding liftedOf liftSpun liftFactor beginBy lagConstantsOf lagFactor
-held-factor a f commands h = go (a .«lift_present») refl
+held-factor a f t = go (a .«lift_present») refl
   where
-    go : (t : Bool) → a .«lift_present» ≡ t → liftSpun a f commands (beginOf a h .lift) ≡ liftSpun a f commands (lagFactor (a .lift .motors) h)
+    go : (b : Bool) → a .«lift_present» ≡ b → liftSpun a f (t .motors) (beginOf a (t .«step_s») .lift) ≡ liftSpun a f (t .motors) (lagFactor (a .lift .motors) (t .«step_s»))
     go true p = rw p refl
     go false p = rw p refl
 
@@ -58,6 +59,10 @@ unliftedUnder a pull surfaces b air density =
       «thrust_n» = pull .«thrust_n»;
     }
 
+-- and those of a tick, by its motors' pull and the density
+abbrev pub unliftedBy : Pull → Airframe → Flight → Tick → Float → Loaded
+unliftedBy pull a f t density = unliftedUnder a (tickPull pull a f t) (movedOf a f t) (bodyOf f) (tickAir f t) density
+
 module _ (a : Airframe) (p : a .«lift_present» ≡ false) where
   pub loads-unlifted : (pull : MotorWrench) (surfaces : Surfaces) (lifting : List Float) (b : Body) (air : Vec3) (density : Float) → loadsUnder a pull surfaces lifting b air density ≡ unliftedUnder a pull surfaces b air density
   unfolding loadsUnder loadedBy withLift withThrust
@@ -68,22 +73,9 @@ module _ (a : Airframe) (p : a .«lift_present» ≡ false) where
   unfolding refusedOf
   lift-stays f t = of-tick (λ (k : Ticked). k .flight .«lift_motors» ≡ f .«lift_motors») a f t (λ x n. refl) (λ q. next-lift a f t ∙ lift-unmoved a f t p)
 
-  -- the next state by the loads as they were
-  abbrev pub nextUnlifted : Flight → Tick → Ticked
-  nextUnlifted f t =
-      let h = t .«step_s» in
-      let surfaces = movedOf a f (t .servos) h in
-      let motors = spunOf a f (t .motors) h in
-      let air = airOf (bodyOf f) (t .«wind_ned_mps») in
-      steppedOf (a .model) f (motors .running) (surfaces .running) (f .«lift_motors») (unliftedUnder a (pullOf (a .model) motors air) surfaces (bodyOf f) air (densityFor f)) h
-
-  next-unlifted : (f : Flight) (t : Tick) → nextOf a f t ≡ nextUnlifted f t
-  unfolding nextOf nextFrom liftedOf liftSpun loadsOf loadsUnder loadedBy withLift withThrust
-  next-unlifted f t = rw p refl
-
-  pub tick-unlifted : (f : Flight) (t : Tick) → tickOf a f t ≡ cond (eqb (refusedPlace a) 0) (acceptedTick f t (nextUnlifted f t)) (refusedOf (NumberOutOfRange (refusedPlace a)) f)
-  unfolding tickOf
-  tick-unlifted f t = ap (λ (n : Ticked). cond (eqb (refusedPlace a) 0) (acceptedTick f t n) (refusedOf (NumberOutOfRange (refusedPlace a)) f)) (next-unlifted f t)
+  pub tick-unlifted : (f : Flight) (t : Tick) → tickOf a f t ≡ tickWith a f t (f .«lift_motors») (unliftedBy wrenchWith a f t (densityFor f))
+  unfolding tickOf loadsIn loadsOf pullOf
+  tick-unlifted f t = rw (lift-unmoved a f t p, loads-unlifted (tickPull wrenchWith a f t) (movedOf a f t) (f .«lift_motors») (bodyOf f) (tickAir f t) (densityFor f))
 
 -- ---- and with other values of the lift rotors, accepted ones, all else is the same
 abbrev pub lifting : Flight → List Float → Flight
@@ -100,8 +92,12 @@ module _ (a : Airframe) (p : a .«lift_present» ≡ false) (xs : List Float) (e
   unfolding isInside outsideOf
   inside-too f o = rw (e, o) refl
 
-  next-too : (f : Flight) (t : Tick) → nextUnlifted a p (lifting f xs) t ≡ handing xs (nextUnlifted a p f t)
-  unfolding steppedOf movedOf surfacesFor spunOf motorsFor densityFor
+  -- the next state by the loads as they were
+  abbrev next : Flight → Tick → Ticked
+  next f t = nextWith a f t (f .«lift_motors») (unliftedBy wrenchWith a f t (densityFor f))
+
+  next-too : (f : Flight) (t : Tick) → Hands (next f t) (next (lifting f xs) t)
+  unfolding nextWith steppedOf movedOf surfacesFor spunOf motorsFor densityFor
   next-too f t = refl
 
   refused-too : (x : Answer) (f : Flight) → Hands (refusedOf x f) (refusedOf x (lifting f xs))
@@ -120,7 +116,7 @@ module _ (a : Airframe) (p : a .«lift_present» ≡ false) (xs : List Float) (e
       (λ u. refused-too StateOutside f)
 
   pub lift-apart : (f : Flight) (t : Tick) → slotsOutside nought one (f .«lift_motors») ≡ 0 → tickOf a (lifting f xs) t ≡ handing xs (tickOf a f t)
-  unfolding steppedOf
+  unfolding tickWith nextWith steppedOf
   lift-apart f t o =
       rw (tick-unlifted a p (lifting f xs) t, tick-unlifted a p f t)
-      (by-test Hands (eqb (refusedPlace a) 0) (eqb (refusedPlace a) 0) refl (λ u. accepted-too f t _ _ o o (next-too f t)) (λ u. refused-too (NumberOutOfRange (refusedPlace a)) f))
+      (by-test Hands (eqb (refusedPlace a) 0) (eqb (refusedPlace a) 0) refl (λ u. accepted-too f t (next f t) (next (lifting f xs) t) o o (next-too f t)) (λ u. refused-too (NumberOutOfRange (refusedPlace a)) f))

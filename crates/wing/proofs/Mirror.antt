@@ -48,7 +48,7 @@ use Rattle.vector.specs.declared.Quaternion.{Quaternion}
 use Rattle.vector.specs.declared.Vec3.{Vec3}
 use Rattle.wing.specs.Loads.{aeroOf, airOf, loadedBy, loadsOf, loadsUnder, motorsFor, pullOf, surfacesFor, washFor, withLift, withThrust}
 use Rattle.wing.specs.Reflection.{LoadedRel, TickedRel}
-use Rattle.wing.specs.Tick.{acceptedTick, densityFor, liftSpun, liftedOf, unlessDeparted, massOf, movedOf, nextFrom, nextOf, refusedOf, spunOf, steppedOf, tickOf, windMost, windUsable}
+use Rattle.wing.specs.Tick.{acceptedTick, densityFor, liftSpun, liftedOf, loadsIn, massOf, movedOf, nextOf, nextWith, refusedOf, spunOf, steppedOf, tickOf, tickWith, unlessDeparted, windMost, windUsable}
 use Rattle.wing.specs.declared.Loaded.{Loaded}
 use Rattle.wing.specs.declared.Ticked.{Ticked}
 
@@ -121,38 +121,37 @@ stepped-mirror m motors servos lifting h k l = record {
   flight = record { body = step-mirror (massOf m) h (k .body) (l .loads); motors = refl; servos = refl; scale = k .scale; lift = refl };
 }
 
-stepped-same : {f f' : Flight} {l l' : Loaded} (m m' : FixedWingModel) (motors motors' servos servos' xs xs' : List Float) (h : Float) → m' ≡ m → motors' ≡ motors → servos' ≡ servos → xs' ≡ xs → FlightRel f f' → LoadedRel l l'
-    → TickedRel (steppedOf m f motors servos xs l h) (steppedOf m' f' motors' servos' xs' l' h)
-stepped-same m m' motors motors' servos servos' xs xs' h i e s x k l = rw (i, e, s, x) (stepped-mirror m motors servos xs h k l)
+stepped-same : {f f' : Flight} {l l' : Loaded} (m m' : FixedWingModel) (motors motors' servos servos' xs xs' : List Float) (h h' : Float) → m' ≡ m → motors' ≡ motors → servos' ≡ servos → xs' ≡ xs → h' ≡ h → FlightRel f f' → LoadedRel l l'
+    → TickedRel (steppedOf m f motors servos xs l h) (steppedOf m' f' motors' servos' xs' l' h')
+stepped-same m m' motors motors' servos servos' xs xs' h h' i e s x p k l = rw (i, e, s, x, p) (stepped-mirror m motors servos xs h k l)
 
-next-from-mirror : {a a' : Airframe} {f f' : Flight} {m m' : Motors} {s s' : Surfaces} {xs xs' : List Float} {wind wind' : Vec3} (h : Float) → AirframeRel a a' → FlightRel f f' → MotorsRel m m' → SurfacesRel s s' → xs' ≡ xs → VecRel false wind wind'
-    → TickedRel (nextFrom a f m s xs wind h) (nextFrom a' f' m' s' xs' wind' h)
-unfolding nextFrom
-next-from-mirror {a} {a'} {f} {f'} {m} {m'} {s} {s'} {xs} {xs'} step h k g l e w =
-    stepped-same (a .model) (a' .model) (m .running) (m' .running) (s .running) (s' .running) xs xs' step (h .model) (g .running) (l .running) e k
-    (rw (density-for-is k) (loads-mirror (densityFor f) h g l e (k .body) w))
-
-spun-mirror : {a a' : Airframe} {f f' : Flight} (commands : List Float) (step : Float) → AirframeRel a a' → FlightRel f f' → MotorsRel (spunOf a f commands step) (spunOf a' f' commands step)
+spun-mirror : {a a' : Airframe} {f f' : Flight} {t t' : Tick} → AirframeRel a a' → FlightRel f f' → TickRel t t' → MotorsRel (spunOf a f t) (spunOf a' f' t')
 unfolding spunOf
-spun-mirror {a} commands step h k = rw (lag-factor-is step (h .motors)) (spin-mirror commands (lagFactor (a .motors) step) (motors-mirror h k))
+spun-mirror {a} {t} h k w = rw (w .step, w .motors, lag-factor-is (t .«step_s») (h .motors)) (spin-mirror (t .motors) (lagFactor (a .motors) (t .«step_s»)) (motors-mirror h k))
 
-moved-mirror : {a a' : Airframe} {f f' : Flight} (commands : List Float) (step : Float) → AirframeRel a a' → FlightRel f f' → SurfacesRel (movedOf a f commands step) (movedOf a' f' commands step)
+moved-mirror : {a a' : Airframe} {f f' : Flight} {t t' : Tick} → AirframeRel a a' → FlightRel f f' → TickRel t t' → SurfacesRel (movedOf a f t) (movedOf a' f' t')
 unfolding movedOf
-moved-mirror {a} {a'} {f} {f'} commands step h k =
-    subst (λ (m : FixedWingModel). SurfacesRel (moveTo (surfacesFor a f) commands (factorOf step (a .model .«servo_time_constant_s»))) (moveTo (surfacesFor a' f') commands (factorOf step (m .«servo_time_constant_s»)))) (sym (h .model))
-    (move-mirror commands (factorOf step (a .model .«servo_time_constant_s»)) (surfaces-mirror h k))
+moved-mirror {a} {a'} {f} {f'} {t} {t'} h k w =
+    rw (w .step, w .servos)
+    (subst (λ (m : FixedWingModel). SurfacesRel (moveTo (surfacesFor a f) (t .servos) (factorOf (t .«step_s») (a .model .«servo_time_constant_s»))) (moveTo (surfacesFor a' f') (t .servos) (factorOf (t .«step_s») (m .«servo_time_constant_s»)))) (sym (h .model))
+    (move-mirror (t .servos) (factorOf (t .«step_s») (a .model .«servo_time_constant_s»)) (surfaces-mirror h k)))
 
-lifted-is : {a a' : Airframe} {f f' : Flight} (commands : List Float) (step : Float) → AirframeRel a a' → FlightRel f f' → liftedOf a' f' commands step ≡ liftedOf a f commands step
+lifted-is : {a a' : Airframe} {f f' : Flight} {t t' : Tick} → AirframeRel a a' → FlightRel f f' → TickRel t t' → liftedOf a' f' t' ≡ liftedOf a f t
 unfolding liftedOf liftSpun rotorsSpun
-lifted-is {a} {a'} {f} {f'} commands step h k =
-    by-test (λ (xs xs' : List Float). xs' ≡ xs) (a .«lift_present») (a' .«lift_present») (h .lift-present)
-    (λ p. ap (λ (z : Float). spinOf (rotorsAt (a' .lift) (f' .«lift_motors»)) commands z .running) (lag-factor-is step (h .lift .motors)) ∙ spin-mirror commands (lagFactor (a .lift .motors) step) (rotors-mirror (h .lift) (k .lift)) .running)
-    (λ p. k .lift)
+lifted-is {a} {a'} {f} {f'} {t} {t'} h k w =
+    rw (w .step, w .motors)
+    (by-test (λ (xs xs' : List Float). xs' ≡ xs) (a .«lift_present») (a' .«lift_present») (h .lift-present)
+    (λ p. ap (λ (z : Float). spinOf (rotorsAt (a' .lift) (f' .«lift_motors»)) (t .motors) z .running) (lag-factor-is (t .«step_s») (h .lift .motors)) ∙ spin-mirror (t .motors) (lagFactor (a .lift .motors) (t .«step_s»)) (rotors-mirror (h .lift) (k .lift)) .running)
+    (λ p. k .lift))
 
 pub next-mirror : {a a' : Airframe} {f f' : Flight} {t t' : Tick} → AirframeRel a a' → FlightRel f f' → TickRel t t' → TickedRel (nextOf a f t) (nextOf a' f' t')
-unfolding nextOf
-next-mirror {t} h k w =
-    rw (w .step, w .motors, w .servos) (next-from-mirror (t .«step_s») h k (spun-mirror (t .motors) (t .«step_s») h k) (moved-mirror (t .servos) (t .«step_s») h k) (lifted-is (t .motors) (t .«step_s») h k) (w .wind))
+unfolding nextWith loadsIn
+next-mirror {a} {a'} {f} {f'} {t} {t'} h k w =
+    let motors = spun-mirror h k w in
+    let surfaces = moved-mirror h k w in
+    let lifted = lifted-is h k w in
+    stepped-same (a .model) (a' .model) _ _ _ _ _ _ (t .«step_s») (t' .«step_s») (h .model) (motors .running) (surfaces .running) lifted (w .step) k
+    (rw (density-for-is k) (loads-mirror (densityFor f) h motors surfaces lifted (k .body) (w .wind)))
 
 -- ---- the tests
 refused-mirror : {f f' : Flight} (x : Answer) → FlightRel f f' → TickedRel (refusedOf x f) (refusedOf x f')
@@ -181,6 +180,6 @@ accepted-mirror {f} {f'} {t} {t'} k w next =
     (λ u. refused-mirror StateOutside k)
 
 pub tick-mirror : {a a' : Airframe} {f f' : Flight} {t t' : Tick} → AirframeRel a a' → FlightRel f f' → TickRel t t' → TickedRel (tickOf a f t) (tickOf a' f' t')
-unfolding tickOf
+unfolding tickOf tickWith
 tick-mirror {a} {a'} h k w =
     rw (refused-place-is h) (by-test TickedRel (eqb (refusedPlace a) 0) (eqb (refusedPlace a) 0) refl (λ u. accepted-mirror k w (next-mirror h k w)) (λ u. refused-mirror (NumberOutOfRange (refusedPlace a)) k))

@@ -15,7 +15,7 @@ use Rattle.flight.specs.declared.Tick.{Tick}
 use Rattle.float.proofs.Tests.{by-cases}
 use Rattle.float.specs.Interval.{inside}
 use Rattle.lag.specs.Lag.{stepLeast, stepMost}
-use Rattle.wing.specs.Tick.{acceptedTick, nextOf, refusedOf, tickOf, unlessDeparted, windUsable}
+use Rattle.wing.specs.Tick.{acceptedTick, nextOf, refusedOf, tickOf, tickWith, unlessDeparted, windUsable}
 use Rattle.wing.specs.declared.Ticked.{Ticked}
 
 -- a test a line, in their order
@@ -27,7 +27,7 @@ pub record Passed (a : Airframe) (f : Flight) (t : Tick) : Type 0 where
   pub next : isInside (nextOf a f t .flight) ≡ true
 
 pub of-tick : (P : Ticked → Type 0) (a : Airframe) (f : Flight) (t : Tick) → ((x : Answer) → (numberOf x ≡ 0 → ⊥) → P (refusedOf x f)) → (Passed a f t → P (nextOf a f t)) → P (tickOf a f t)
-unfolding tickOf acceptedTick unlessDeparted
+unfolding tickOf tickWith acceptedTick unlessDeparted
 of-tick P a f t refused next =
     by-cases P (eqb (refusedPlace a) 0)
     (λ p. by-cases P (isInside f)

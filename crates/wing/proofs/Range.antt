@@ -31,22 +31,22 @@ use Rattle.surfaces.specs.Surface.{moveAt, moveTo}
 use Rattle.wing.specs.Loads.{motorsFor, surfacesFor}
 use Rattle.wing.proofs.Passed.{of-tick}
 use Rattle.wing.proofs.Running.{Held, Running, Still}
-use Rattle.wing.specs.Tick.{liftSpun, liftedOf, movedOf, nextFrom, nextOf, refusedOf, spunOf, steppedOf, tickOf}
+use Rattle.wing.specs.Tick.{liftSpun, liftedOf, movedOf, nextOf, nextWith, refusedOf, spunOf, steppedOf, tickOf}
 use Rattle.wing.specs.declared.Ticked.{Ticked}
 
 -- ---- the next state
 next-motors : (a : Airframe) (f : Flight) (t : Tick)
     → nextOf a f t .flight .motors ≡ spinOf (motorsFor a f) (t .motors) (lagFactor (a .motors) (t .«step_s»)) .running
-unfolding nextOf nextFrom steppedOf spunOf
+unfolding nextWith steppedOf spunOf
 next-motors a f t = refl
 
 next-servo : (a : Airframe) (f : Flight) (t : Tick) (k : ℕ) → k < 8
     → at (nextOf a f t .flight .servos) k ≡ moveAt (surfacesFor a f) (t .servos) (factorOf (t .«step_s») (a .model .«servo_time_constant_s»)) k
-unfolding nextOf nextFrom steppedOf movedOf moveTo
+unfolding nextWith steppedOf movedOf moveTo
 next-servo a f t k l = slots-at nan (moveAt (surfacesFor a f) (t .servos) (factorOf (t .«step_s») (a .model .«servo_time_constant_s»))) [] k l
 
 pub next-scale : (a : Airframe) (f : Flight) (t : Tick) → nextOf a f t .flight .«thrust_scale» ≡ f .«thrust_scale»
-unfolding nextOf nextFrom steppedOf
+unfolding nextWith steppedOf
 next-scale a f t = refl
 
 -- the lift rotors, where there are lift numbers and where not
@@ -54,24 +54,24 @@ module _ (a : Airframe) (f : Flight) (t : Tick) where
   abbrev rotors : List Float
   rotors = f .«lift_motors»
 
-  pub next-lift : nextOf a f t .flight .«lift_motors» ≡ liftedOf a f (t .motors) (t .«step_s»)
-  unfolding nextOf nextFrom steppedOf
+  pub next-lift : nextOf a f t .flight .«lift_motors» ≡ liftedOf a f t
+  unfolding nextWith steppedOf
   next-lift = refl
 
-  lift-running : refusedPlace a ≡ 0 → inside stepLeast stepMost (t .«step_s») ≡ true → Group.Held rotors → Group.Running rotors → Group.Running (liftedOf a f (t .motors) (t .«step_s»))
+  lift-running : refusedPlace a ≡ 0 → inside stepLeast stepMost (t .«step_s») ≡ true → Group.Held rotors → Group.Running rotors → Group.Running (liftedOf a f t)
   unfolding liftedOf liftSpun rotorsSpun rotorsAt lagFactor
   lift-running e s g r =
       by-cases Group.Running (a .«lift_present») (λ p. spin-running (rotorsAt (a .lift) rotors) (t .motors) _ g r (factor-in _ _ (inside-within s) (lift-constant-in a e p))) r
 
-  lift-leaves : Group.Still (a .lift .motors .used) rotors (liftedOf a f (t .motors) (t .«step_s»))
+  lift-leaves : Group.Still (a .lift .motors .used) rotors (liftedOf a f t)
   unfolding liftedOf liftSpun rotorsSpun rotorsAt
   lift-leaves = by-cases (Group.Still (a .lift .motors .used) rotors) (a .«lift_present») (λ p. spin-leaves (rotorsAt (a .lift) rotors) (t .motors) _) (still-same _ _)
 
-  pub lift-unmoved : a .«lift_present» ≡ false → liftedOf a f (t .motors) (t .«step_s») ≡ rotors
+  pub lift-unmoved : a .«lift_present» ≡ false → liftedOf a f t ≡ rotors
   unfolding liftedOf liftSpun
   lift-unmoved p = rw p
 
-  lift-held : Group.Held rotors → Group.Held (liftedOf a f (t .motors) (t .«step_s»))
+  lift-held : Group.Held rotors → Group.Held (liftedOf a f t)
   unfolding liftedOf liftSpun rotorsSpun rotorsAt
   lift-held g = by-cases Group.Held (a .«lift_present») (λ p. spin-held (rotorsAt (a .lift) rotors) (t .motors) _ g) g
 

@@ -4,17 +4,16 @@ use lib.Ieee.{binary32, fits}
 use lib.ListN.{replicate}
 use mathlib.Core.Path.{_≡_, refl}
 use Rattle.airframe.specs.declared.Airframe.{Airframe}
-use Rattle.flight.specs.State.{bodyOf}
 use Rattle.flight.specs.declared.Flight.{Flight}
 use Rattle.flight.specs.declared.Tick.{Tick}
 use Rattle.float.specs.Notation.{one}
 use Rattle.motors.proofs.Scales.{builtPull, pull-as-built}
 use Rattle.motors.specs.Motor.{spinOf}
 use Rattle.wing.proofs.Passed.{of-tick}
-use Rattle.wing.proofs.Pulls.{tick-under, tickUnder}
+use Rattle.wing.proofs.Pulls.{loadsBy, tick-under, tickAir}
 use Rattle.wing.proofs.Range.{next-scale}
-use Rattle.wing.specs.Loads.{airOf, motorsFor}
-use Rattle.wing.specs.Tick.{refusedOf, spunOf, tickOf}
+use Rattle.wing.specs.Loads.{motorsFor}
+use Rattle.wing.specs.Tick.{liftedOf, refusedOf, spunOf, tickOf, tickWith}
 use Rattle.wing.specs.declared.Ticked.{Ticked}
 
 -- ---- refused or not, a tick hands back the scales it was given
@@ -24,6 +23,6 @@ scale-stays a f t = of-tick (λ (k : Ticked). k .flight .«thrust_scale» ≡ f 
 
 -- ---- scales of 1; the most thrust is a 32-bit float, as its type tells
 pub tick-as-built : (a : Airframe) (f : Flight) (t : Tick) → f .«thrust_scale» ≡ replicate 8 one → T (fits binary32 (a .motors .layout .«max_thrust_n»))
-    → tickOf a f t ≡ tickUnder a f t (builtPull (spunOf a f (t .motors) (t .«step_s»)) (a .model .«thrust_falloff») (airOf (bodyOf f) (t .«wind_ned_mps») .x))
+    → tickOf a f t ≡ tickWith a f t (liftedOf a f t) (loadsBy builtPull a f t)
 unfolding spunOf spinOf motorsFor
-tick-as-built a f t e h = tick-under a f t (pull-as-built (spunOf a f (t .motors) (t .«step_s»)) (a .model .«thrust_falloff») (airOf (bodyOf f) (t .«wind_ned_mps») .x) e h)
+tick-as-built a f t e h = tick-under builtPull a f t (pull-as-built (spunOf a f t) (a .model .«thrust_falloff») (tickAir f t .x) e h)

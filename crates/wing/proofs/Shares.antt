@@ -6,7 +6,6 @@ use mathlib.Core.Path.{_≡_}
 use Rattle.airframe.proofs.Range.{exponent-in, lift-exponent-in}
 use Rattle.airframe.specs.Acceptance.{refusedPlace}
 use Rattle.airframe.specs.declared.Airframe.{Airframe}
-use Rattle.flight.specs.State.{bodyOf}
 use Rattle.flight.specs.declared.Flight.{Flight}
 use Rattle.flight.specs.declared.Tick.{Tick}
 use Rattle.float.specs.Interval.{Within}
@@ -14,10 +13,10 @@ use Rattle.float.specs.Notation.{nought, one, two}
 use Rattle.mixers.specs.Slots.{at}
 use Rattle.motors.proofs.Shares.{pull-as-square, share-in, squarePull}
 use Rattle.motors.specs.Motor.{spinOf, thrustFraction}
-use Rattle.wing.proofs.Pulls.{tick-under, tickUnder}
+use Rattle.wing.proofs.Pulls.{loadsBy, tick-under, tickAir}
 use Rattle.wing.proofs.Running.{Held, Running}
-use Rattle.wing.specs.Loads.{airOf, motorsFor}
-use Rattle.wing.specs.Tick.{spunOf, tickOf}
+use Rattle.wing.specs.Loads.{motorsFor}
+use Rattle.wing.specs.Tick.{liftedOf, spunOf, tickOf, tickWith}
 
 -- ---- of an accepted airframe, at running values in their ranges, as every tick of a run has them
 pub shares-in : (a : Airframe) (f : Flight) → refusedPlace a ≡ 0 → Held f → Running f → (k : ℕ) → k < 8 → Within nought one (thrustFraction (at (f .motors) k) (a .motors .layout .«thrust_exponent»))
@@ -29,7 +28,6 @@ pub lift-shares-in : (a : Airframe) (f : Flight) → refusedPlace a ≡ 0 → a 
 lift-shares-in a f e p g r k l = share-in (at (f .«lift_motors») k) (a .lift .motors .layout .«thrust_exponent») (g .lift .motor k l) (r .lift .motor k l) (lift-exponent-in a e p)
 
 -- ---- the exponent 2
-pub tick-as-square : (a : Airframe) (f : Flight) (t : Tick) → eq (a .motors .layout .«thrust_exponent») two ≡ true
-    → tickOf a f t ≡ tickUnder a f t (squarePull (spunOf a f (t .motors) (t .«step_s»)) (a .model .«thrust_falloff») (airOf (bodyOf f) (t .«wind_ned_mps») .x))
+pub tick-as-square : (a : Airframe) (f : Flight) (t : Tick) → eq (a .motors .layout .«thrust_exponent») two ≡ true → tickOf a f t ≡ tickWith a f t (liftedOf a f t) (loadsBy squarePull a f t)
 unfolding spunOf spinOf motorsFor
-tick-as-square a f t e = tick-under a f t (pull-as-square (spunOf a f (t .motors) (t .«step_s»)) (a .model .«thrust_falloff») (airOf (bodyOf f) (t .«wind_ned_mps») .x) e)
+tick-as-square a f t e = tick-under squarePull a f t (pull-as-square (spunOf a f t) (a .model .«thrust_falloff») (tickAir f t .x) e)

@@ -25,13 +25,13 @@ use Rattle.vector.proofs.Range.{VecSized, inverse-rotate-sized, norm-sized, sub
 use Rattle.vector.specs.declared.Vec3.{Vec3}
 use Rattle.wing.proofs.Passed.{of-tick, passed}
 use Rattle.wing.specs.Loads.{aeroOf, airOf, loadedBy, loadsOf, loadsUnder}
-use Rattle.wing.specs.Tick.{acceptedTick, nextFrom, nextOf, refusedOf, steppedOf, tickOf, windMost, windUsable}
+use Rattle.wing.specs.Tick.{acceptedTick, loadsIn, nextOf, nextWith, refusedOf, steppedOf, tickOf, tickWith, windMost, windUsable}
 use Rattle.wing.specs.declared.Report.{Report}
 use Rattle.wing.specs.declared.Ticked.{Ticked}
 
 -- ---- an unusable wind: 10, where 6, 7 and 8 have nothing to say
 pub wind-refused : (a : Airframe) (f : Flight) (t : Tick) → refusedPlace a ≡ 0 → isInside f ≡ true → inside stepLeast stepMost (t .«step_s») ≡ true → windUsable (t .«wind_ned_mps») ≡ false → tickOf a f t ≡ refusedOf WindUnusable f
-unfolding tickOf acceptedTick
+unfolding tickOf tickWith acceptedTick
 wind-refused a f t p s h w = rw (p, s, h, w)
 
 -- and never an accepted tick: the state as given, and zeros
@@ -56,7 +56,7 @@ abbrev pub Angles : Report → Type 0
 Angles r = T (finite (r .«alpha_rad»)) × T (finite (r .«beta_rad»))
 
 next-angles : (a : Airframe) (f : Flight) (t : Tick) → isInside f ≡ true → windUsable (t .«wind_ned_mps») ≡ true → Angles (nextOf a f t .report)
-unfolding nextOf nextFrom steppedOf loadsOf loadsUnder loadedBy aeroOf
+unfolding nextWith loadsIn steppedOf loadsOf loadsUnder loadedBy aeroOf
 next-angles a f t i u = wrench-angles _ _ _ _ _ _ (air-sized f (t .«wind_ned_mps») i u)
 
 pub tick-angles : (a : Airframe) (f : Flight) (t : Tick) → Angles (tickOf a f t .report)

@@ -29,20 +29,20 @@ use Rattle.wing.specs.Loads.{loadsOf, motorsFor, surfacesFor}
 use Rattle.wing.specs.declared.Loaded.{Loaded}
 use Rattle.wing.specs.declared.Ticked.{Ticked}
 
--- begin(h): the motors and surfaces after a step of their lags
-unfoldable pub spunOf : Airframe → Flight → List Float → Float → Motors
-spunOf a f commands h = spinOf (motorsFor a f) commands (lagFactor (a .motors) h)
+-- begin(h): the motors and surfaces after a step of their lags, h being the tick's step
+unfoldable pub spunOf : Airframe → Flight → Tick → Motors
+spunOf a f t = spinOf (motorsFor a f) (t .motors) (lagFactor (a .motors) (t .«step_s»))
 
-unfoldable pub movedOf : Airframe → Flight → List Float → Float → Surfaces
-movedOf a f commands h = moveTo (surfacesFor a f) commands (factorOf h (a .model .«servo_time_constant_s»))
+unfoldable pub movedOf : Airframe → Flight → Tick → Surfaces
+movedOf a f t = moveTo (surfacesFor a f) (t .servos) (factorOf (t .«step_s») (a .model .«servo_time_constant_s»))
 
 -- each lift rotor follows the motor command of its slot; without lift numbers none moves (02, 5)
 unfoldable pub liftSpun : Airframe → Flight → List Float → Float → List Float
 liftSpun a f commands factor =
     cond (a .«lift_present») (rotorsSpun (a .lift) (f .«lift_motors») commands factor) (f .«lift_motors»)
 
-unfoldable pub liftedOf : Airframe → Flight → List Float → Float → List Float
-liftedOf a f commands h = liftSpun a f commands (lagFactor (a .lift .motors) h)
+unfoldable pub liftedOf : Airframe → Flight → Tick → List Float
+liftedOf a f t = liftSpun a f (t .motors) (lagFactor (a .lift .motors) (t .«step_s»))
 
 -- the density at the tick's starting height, which is position down negated (02, 6)
 unfoldable pub densityFor : Flight → Float
@@ -58,14 +58,9 @@ steppedOf m f motors servos lifting l h = record {
   flight = flightOf (stepOf (bodyOf f) (massOf m) (l .loads) h) motors servos (f .«thrust_scale») lifting;
 }
 
-unfoldable pub nextFrom : Airframe → Flight → Motors → Surfaces → List Float → Vec3 → Float → Ticked
-nextFrom a f motors surfaces lifting wind h =
-    steppedOf (a .model) f (motors .running) (surfaces .running) lifting (loadsOf a motors surfaces lifting (bodyOf f) wind (densityFor f)) h
-
-unfoldable pub nextOf : Airframe → Flight → Tick → Ticked
-nextOf a f t =
-    let h = t .«step_s» in
-    nextFrom a f (spunOf a f (t .motors) h) (movedOf a f (t .servos) h) (liftedOf a f (t .motors) h) (t .«wind_ned_mps») h
+-- the next state with these running values of the lift rotors and under these loads
+unfoldable pub nextWith : Airframe → Flight → Tick → List Float → Loaded → Ticked
+nextWith a f t lifting l = steppedOf (a .model) f (spunOf a f t .running) (movedOf a f t .running) lifting l (t .«step_s»)
 
 -- a refusal: the given state again, and a report of zeros
 unfoldable pub refusedOf : Answer → Flight → Ticked
@@ -95,7 +90,21 @@ acceptedTick f t n =
     (refusedOf StepOutside f))
     (refusedOf StateOutside f)
 
--- 6: a number of the airframe outside its limits
+-- the tick with these running values of the lift rotors and under these loads. 6: a number of the airframe outside its limits; then
+-- 7, 8, 10 and 9
+unfoldable pub tickWith : Airframe → Flight → Tick → List Float → Loaded → Ticked
+tickWith a f t lifting l =
+    cond (eqb (refusedPlace a) 0)
+    (acceptedTick f t (nextWith a f t lifting l))
+    (refusedOf (NumberOutOfRange (refusedPlace a)) f)
+
+-- the tick's loads in air of a density, and the tick: with its own loads in the air of its starting height
+unfoldable pub loadsIn : Airframe → Flight → Tick → Float → Loaded
+loadsIn a f t density = loadsOf a (spunOf a f t) (movedOf a f t) (liftedOf a f t) (bodyOf f) (t .«wind_ned_mps») density
+
 unfoldable pub tickOf : Airframe → Flight → Tick → Ticked
-tickOf a f t =
-    cond (eqb (refusedPlace a) 0) (acceptedTick f t (nextOf a f t)) (refusedOf (NumberOutOfRange (refusedPlace a)) f)
+tickOf a f t = tickWith a f t (liftedOf a f t) (loadsIn a f t (densityFor f))
+
+-- its next state, whatever the tests say
+abbrev pub nextOf : Airframe → Flight → Tick → Ticked
+nextOf a f t = nextWith a f t (liftedOf a f t) (loadsIn a f t (densityFor f))

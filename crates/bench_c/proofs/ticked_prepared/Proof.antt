@@ -1,7 +1,7 @@
 -- `bench_c::ticked_prepared` meets its contract: the refused place and the lags' constants that are read off the numbers are the
 -- airframe's own. Assumes nothing.
 use Rattle.airframe.specs.Acceptance.{refusedPlace}
-use Rattle.wing.specs.Tick.{tickOf}
+use Rattle.wing.specs.Tick.{tickOf, tickWith}
 use Rattle.ordered.proofs.Ordered.{some-eqb}
 use mathlib.Core.Path.{_∙_, ap, sym}
 use borrow.Author.Needs.{needs}
@@ -43,7 +43,7 @@ refused-requires : tie.Need-refused-requires
 refused-requires c κs = search needs
 
 returns-2 : tie.Need-returns-2
-unfolding tickOf
+unfolding tickOf tickWith
 returns-2 c = simp (c .refused .ensures, c .before .before .refused-place .ensures, some-eqb _ (λ e. c .before .if1 .left (c .before .before .refused-place .ensures ∙ e)))
 
 pub ticked-prepared-spec : {M : Type 1} → statement M

@@ -4,7 +4,7 @@ use Rattle.wing.proofs.Lift.{held-factor}
 use Rattle.airframe.specs.Contracts.{lagConstantsOf}
 use Rattle.motors.specs.Motor.{lagFactor}
 use Rattle.wing.specs.Contracts.{beginBy}
-use Rattle.wing.specs.Tick.{movedOf, nextFrom, nextOf, spunOf}
+use Rattle.wing.specs.Tick.{loadsIn, movedOf, nextWith, spunOf}
 use borrow.Author.Needs.{needs}
 use Rattle.wing.proofs.next_with.Statement.{statement}
 use Rattle.wing.proofs.next_with.Tie as tie
@@ -37,7 +37,7 @@ stepped-requires : tie.Need-stepped-requires
 stepped-requires c κs = search needs
 
 returns : tie.Need-returns
-unfolding nextOf nextFrom spunOf movedOf lagFactor beginBy lagConstantsOf ofBits round
+unfolding nextWith loadsIn spunOf movedOf lagFactor beginBy lagConstantsOf ofBits round
 returns c =
     let l = c .before .before .before in
     let s = l .before .before .before .before .before .before in
@@ -53,7 +53,7 @@ returns c =
       s .spin .ensures,
       s .before .motors-of .ensures,
       x .pre .0,
-      held-factor (x .args .a) (x .args .f) (x .args .t .motors) (x .args .t .«step_s»),
+      held-factor (x .args .a) (x .args .f) (x .args .t),
     )
 
 pub next-with-spec : {M : Type 1} → statement M

@@ -8,7 +8,7 @@ use Rattle.airframe.specs.Acceptance.{refusedPlace}
 use Rattle.answers.specs.declared.Answer.the-variants.{NumberOutOfRange}
 use Rattle.ordered.proofs.Ordered.{some-eqb}
 use Rattle.mixers.specs.Slots.{at}
-use Rattle.wing.specs.Tick.{refusedOf, tickOf}
+use Rattle.wing.specs.Tick.{refusedOf, tickOf, tickWith}
 use Rattle.wing.proofs.tick.Statement.{statement}
 use Rattle.wing.proofs.tick.Tie as tie
 
@@ -38,7 +38,7 @@ refused-requires : tie.Need-refused-requires
 refused-requires c κs = search needs
 
 returns-2 : tie.Need-returns-2
-unfolding tickOf
+unfolding tickOf tickWith
 returns-2 c =
     let e = c .before .before .refused-place .ensures in
     let n : eqb (refusedPlace (c .before .before .before .args .a)) 0 ≡ false = rw e at (some-eqb _ (c .before .if1 .left)) in

@@ -1,5 +1,5 @@
 -- `wing::tick_accepted` meets its contract. Assumes nothing.
-use Rattle.wing.specs.Tick.{acceptedTick, tickOf}
+use Rattle.wing.specs.Tick.{acceptedTick, tickOf, tickWith}
 use mathlib.Core.Path.{_∙_, sym}
 use borrow.Author.Needs.{needs}
 use Rattle.wing.proofs.tick_accepted.Statement.{statement}
@@ -20,7 +20,7 @@ refused-requires : tie.Need-refused-requires
 refused-requires c κs = search needs
 
 returns-2 : tie.Need-returns-2
-unfolding tickOf acceptedTick
+unfolding tickOf tickWith acceptedTick
 returns-2 c = simp (c .refused .ensures, c .before .before .before .pre .0, sym (c .before .before .is-inside .ensures) ∙ c .before .if1 .left)
 
 pub tick-accepted-spec : {M : Type 1} → statement M

@@ -1,5 +1,5 @@
 -- `wing::tick_inside` meets its contract. Assumes nothing.
-use Rattle.wing.specs.Tick.{acceptedTick, tickOf}
+use Rattle.wing.specs.Tick.{acceptedTick, tickOf, tickWith}
 use mathlib.Core.Path.{_∙_, sym}
 use lib.Ieee.{ofBits, round}
 use borrow.Author.Needs.{needs}
@@ -19,7 +19,7 @@ unless-departed-requires : tie.Need-unless-departed-requires
 unless-departed-requires c κs = search needs
 
 returns : tie.Need-returns
-unfolding tickOf acceptedTick ofBits round
+unfolding tickOf tickWith acceptedTick ofBits round
 returns c =
     let outer = c .before .before .before .before in
     let pre = outer .before .before .pre in
@@ -29,7 +29,7 @@ refused-requires : tie.Need-refused-requires
 refused-requires c κs = search needs
 
 returns-2 : tie.Need-returns-2
-unfolding tickOf acceptedTick ofBits round
+unfolding tickOf tickWith acceptedTick ofBits round
 returns-2 c =
     let outer = c .before .before .before in
     let pre = outer .before .before .pre in
@@ -39,7 +39,7 @@ refused-requires-2 : tie.Need-refused-requires-2
 refused-requires-2 c κs = search needs
 
 returns-3 : tie.Need-returns-3
-unfolding tickOf acceptedTick ofBits round
+unfolding tickOf tickWith acceptedTick ofBits round
 returns-3 c =
     let pre = c .before .before .before .pre in
     simp (c .refused2 .ensures, sym (c .before .before .inside .ensures) ∙ c .before .if1 .left, pre .0, pre .1 .0)
