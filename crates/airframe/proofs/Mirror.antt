@@ -1,6 +1,5 @@
 -- An airframe and its reflection have one refused place; and the reflection by flipping sign bits is one. Assumes nothing.
 use Prim.Native.Nat.{ℕ}
-use denote.Index.{place}
 use lib.Dec.{eqb}
 use lib.Ieee.{Float}
 use mathlib.Core.Bool.{cond}

@@ -3,9 +3,8 @@
 -- program finds no tick that differs, whatever it flies. Assumes nothing.
 use Prim.Native.Nat.{_*_, _<_, suc, zero, ℕ}
 use borrow.Author.Tests.{eq-eqb, eqb-true}
-use lib.Dec.{eqb}
 use lib.Ieee.{Float}
-use mathlib.Core.Bool.{Bool, cond, false, not, true, true≢false}
+use mathlib.Core.Bool.{Bool, false, true, true≢false}
 use mathlib.Core.List.{List}
 use mathlib.Core.Path.{_∙_, _≡_, ap, refl, sym}
 use Rattle.airframe.proofs.Mirror.{reflect-airframe}

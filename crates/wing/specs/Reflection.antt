@@ -1,6 +1,5 @@
 -- What it is for two ticks to be each other's reflections: the same answer, alpha and thrust, the opposite beta, and reflected
 -- states. Definitions only.
-use mathlib.Core.Bool.{false, true}
 use mathlib.Core.Path.{_≡_}
 use Rattle.body.specs.Reflection.{LoadsRel}
 use Rattle.flight.specs.Reflection.{FlightRel}

@@ -1,7 +1,6 @@
 -- `replay::replay_flights` meets its contract. Assumes nothing.
 use Prim.Native.Nat.{_≤_}
 use borrow.Author.Needs.{needs}
-use Rattle.libm.specs.Exp.{turns}
 use Rattle.replay.proofs.replay_flights.Statement.{statement}
 use Rattle.replay.proofs.replay_flights.Tie as tie
 

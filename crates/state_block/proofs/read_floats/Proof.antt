@@ -3,7 +3,6 @@ use Prim.Native.Nat.{_-_}
 use lib.Ieee.{nan}
 use borrow.Author.Needs.{needs}
 use Rattle.mixers.proofs.Slots.{Filled, fill-end, fill-more, fill-start}
-use Rattle.mixers.specs.Slots.{at}
 use Rattle.state_block.specs.Layout.{floatAt, floatsFrom, slotFrom}
 use Rattle.state_block.proofs.read_floats.Statement.{statement}
 use Rattle.state_block.proofs.read_floats.Tie as tie

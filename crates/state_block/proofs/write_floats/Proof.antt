@@ -4,7 +4,6 @@ use lib.ListN.{length, length-set}
 use mathlib.Core.Path.{_∙_, _≡_, ap, refl}
 use native.Mathlib.Nat.{le-antisymm}
 use borrow.Author.Needs.{needs}
-use Rattle.mixers.specs.Slots.{at}
 use Rattle.state_block.proofs.Writing.{put-slot}
 use Rattle.state_block.specs.Layout.{putFloat, putFloats}
 use Rattle.state_block.proofs.write_floats.Statement.{statement}

@@ -1,6 +1,5 @@
 -- `surfaces::squares_of` meets its contract: after i turns the sum is that of the first i slots. Assumes nothing.
 use Prim.Native.Nat.{_-_, _≤_}
-use lib.Ieee.{sum}
 use mathlib.Core.Path.{_≡_}
 use native.Mathlib.Nat.{le-antisymm}
 use borrow.Author.Needs.{needs}

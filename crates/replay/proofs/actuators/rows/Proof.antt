@@ -1,7 +1,6 @@
 -- `replay::actuators::rows` meets its contract. Assumes nothing.
 use Prim.Native.Nat.{_-_, _≤_}
 use borrow.Author.Needs.{needs}
-use Rattle.mixers.specs.Slots.{at}
 use Rattle.replay.proofs.actuators.rows.Statement.{statement}
 use Rattle.replay.proofs.actuators.rows.Tie as tie
 

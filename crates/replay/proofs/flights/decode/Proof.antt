@@ -1,7 +1,6 @@
 -- `replay::flights::decode` meets its contract. Assumes nothing.
 use Prim.Native.Nat.{_-_, _/_, _≤_}
 use borrow.Author.Needs.{needs}
-use types.Run.{from}
 use Rattle.replay.proofs.flights.decode.Statement.{statement}
 use Rattle.replay.proofs.flights.decode.Tie as tie
 

@@ -1,8 +1,6 @@
 -- `replay::flights::found` meets its contract. Assumes nothing.
 use Prim.Native.Nat.{_-_, _<_, _≤_}
 use borrow.Author.Needs.{needs}
-use types.Run.{from}
-use Rattle.mixers.specs.Slots.{at}
 use Rattle.replay.proofs.flights.found.Statement.{statement}
 use Rattle.replay.proofs.flights.found.Tie as tie
 
