@@ -17,10 +17,13 @@ use Rattle.answers.specs.declared.Answer.the-variants.{Done, NumberOutOfRange, 
 use Rattle.float.proofs.Tests.{either}
 use Rattle.float.specs.Bytes.{byteAt}
 use Rattle.float.specs.Notation.{nought}
+use Rattle.mixers.specs.Rows.{mostRows}
 use Rattle.mixers.specs.declared.Rows.{Rows}
 use Rattle.motors.specs.Motor.{zeroLayout}
-use Rattle.airframe_block.specs.Block.{acceptedAirframe, airframeBy, badRow, bytesOf, headerOf, liftConstant, liftDrag, liftLayoutOf, numbersFrom, placedAirframe, putNumbers, putSegment, putSegments, readAirframeOf, readBody, readBy, readRows, refusedAirframe, reservedRow, rowsAt, rowsFrom, segmentsOf, testedAirframe, washFrom}
+use Rattle.airframe_block.specs.Block.{acceptedAirframe, airframeBy, announcedBy, badRow, bytesOf, headerOf, liftConstant, liftDrag, liftLayoutOf, numbersFrom, placedAirframe, putNumbers, putSegment, putSegments, readAirframeOf, readAs, readBody, readBy, readRows, refusedAirframe, reservedRow, rowsAt, rowsFrom, segmentsOf, testedAirframe, washFrom}
 use Rattle.airframe_block.specs.declared.AirframeRead.{AirframeRead}
+use Rattle.airframe_block.specs.declared.Announced.{Announced}
+use Rattle.airframe_block.specs.declared.Announced.the-variants.{Bytes, Refused}
 use Rattle.airframe_block.specs.declared.Header.{Header}
 
 -- a read is a refusal or the acceptance of an airframe that no place refuses
@@ -67,14 +70,22 @@ body-outcome : (s : List ℕ) (h : Header) → Outcome (readBody s h)
 unfolding readBody
 body-outcome s h = either Outcome (eqb (reservedRow s (h .lift) (rowsAt h) (h .rows)) 0) (rows-outcome s h (rowsFrom s (rowsAt h) (h .rows))) (refusal ReservedBit not-reserved)
 
+said-outcome : (h : Header) (n : ℕ) (s : List ℕ) → Outcome (readAs s h (Bytes n))
+unfolding readAs
+said-outcome h n s = either Outcome (not (eqb (length s) n)) (refusal WrongLength not-length) (body-outcome s h)
+
+refused-outcome : (s : List ℕ) (h : Header) (x : Answer) → (x ≡ Done → ⊥) → Outcome (readAs s h (Refused x))
+unfolding readAs
+refused-outcome s h x n = refusal x n
+
 by-outcome : (s : List ℕ) (h : Header) → Outcome (readBy s h)
-unfolding readBy
+unfolding readBy announcedBy
 by-outcome s h =
-    either Outcome (not (eqb (h .version) 1)) (refusal WrongVersion not-version)
-    (either Outcome (ltb 1 (h .kind)) (refusal WrongFalloff not-falloff)
-    (either Outcome (not (eqb (h .reserved) 0)) (refusal ReservedBit not-reserved)
-    (either Outcome (ltb 16 (h .rows)) (refusal TooManyRows not-rows)
-    (either Outcome (not (eqb (length s) (bytesOf h))) (refusal WrongLength not-length) (body-outcome s h)))))
+    let Reads : Announced → Type 0 = λ x. Outcome (readAs s h x) in
+    either Reads (not (eqb (h .version) 1)) (refused-outcome s h WrongVersion not-version)
+    (either Reads (ltb 1 (h .kind)) (refused-outcome s h WrongFalloff not-falloff)
+    (either Reads (not (eqb (h .reserved) 0)) (refused-outcome s h ReservedBit not-reserved)
+    (either Reads (ltb mostRows (h .rows)) (refused-outcome s h TooManyRows not-rows) (said-outcome h (bytesOf h) s))))
 
 pub read-outcome : (s : List ℕ) → Outcome (readAirframeOf s)
 unfolding readAirframeOf

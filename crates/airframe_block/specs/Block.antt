@@ -34,6 +34,8 @@ use Rattle.surfaces.specs.Surface.{surfacesOf}
 use Rattle.tailsitter_model.specs.declared.PropWash.{PropWash}
 use Rattle.vector.specs.Vector.{vec}
 use Rattle.airframe_block.specs.declared.AirframeRead.{AirframeRead}
+use Rattle.airframe_block.specs.declared.Announced.{Announced}
+use Rattle.airframe_block.specs.declared.Announced.the-variants.{Bytes, Refused}
 use Rattle.airframe_block.specs.declared.Header.{Header}
 
 -- ---- lengths in bytes
@@ -78,6 +80,17 @@ rowsAt h = segmentsEnd headerBytes (segmentsOf h)
 -- 166 bytes, 28 more with a wash, 24 more with lift numbers, 13 more for each row
 unfoldable pub bytesOf : Header → ℕ
 bytesOf h = rowsAt h + rowBytes * h .rows
+
+-- what the header announces: version (2), falloff kind (3), reserved bits (4), row count (5), else the block's length
+unfoldable pub announcedBy : Header → Announced
+announcedBy h =
+    cond (not (eqb (h .version) 1)) (Refused WrongVersion)
+    (cond (ltb 1 (h .kind)) (Refused WrongFalloff)
+    (cond (not (eqb (h .reserved) 0)) (Refused ReservedBit)
+    (cond (ltb mostRows (h .rows)) (Refused TooManyRows) (Bytes (bytesOf h)))))
+
+abbrev pub announcedOf : ℕ → ℕ → Announced
+announcedOf a b = announcedBy (headerOf a b)
 
 -- ---- the numbers: 0, but for those of the segments that are there
 
@@ -283,14 +296,13 @@ readBody s h =
     (readRows s h (rowsFrom s (rowsAt h) (h .rows)))
     (refusedAirframe ReservedBit)
 
--- version (2), falloff kind (3), reserved header bits (4), row count (5), total length (1)
+-- refused by its header (2 to 5), total length (1), then the rest
+unfoldable pub readAs : List ℕ → Header → Announced → AirframeRead
+readAs s h (Refused answer) = refusedAirframe answer
+readAs s h (Bytes n) = cond (not (eqb (length s) n)) (refusedAirframe WrongLength) (readBody s h)
+
 unfoldable pub readBy : List ℕ → Header → AirframeRead
-readBy s h =
-    cond (not (eqb (h .version) 1)) (refusedAirframe WrongVersion)
-    (cond (ltb 1 (h .kind)) (refusedAirframe WrongFalloff)
-    (cond (not (eqb (h .reserved) 0)) (refusedAirframe ReservedBit)
-    (cond (ltb mostRows (h .rows)) (refusedAirframe TooManyRows)
-    (cond (not (eqb (length s) (bytesOf h))) (refusedAirframe WrongLength) (readBody s h)))))
+readBy s h = readAs s h (announcedBy h)
 
 -- under 2 bytes (1), then by the header
 unfoldable pub readAirframeOf : List ℕ → AirframeRead

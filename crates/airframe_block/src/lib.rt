@@ -35,6 +35,12 @@ pub const ROW_BYTES: usize = 13;
 // The longest block that a header can announce: its five bits of the row count go up to 31.
 pub const MOST_BYTES: usize = HEADER_BYTES + state_block::NUMBER_BYTES * NUMBERS + ROW_BYTES * 31;
 
+// What a block's first two bytes announce: how many bytes it has, or why it is refused whatever follows.
+pub enum Announced {
+    Bytes(usize),
+    Refused(Answer),
+}
+
 // What the block's two first bytes say.
 struct Header {
     version: u8,
@@ -98,6 +104,35 @@ impl Header {
         let start = self.rows_at();
         start + ROW_BYTES * self.rows
     }
+
+    // What it announces.
+    fn announced(self) -> Announced
+        requires { ⌜ self .rows ≤ 31 ⌝ }
+        ensures { λ r. ⌜ r ≡ Block.announcedBy self ⌝ }
+    {
+        if self.version != 1 {
+            return Announced::Refused(Answer::WrongVersion);
+        }
+        if self.kind > 1 {
+            return Announced::Refused(Answer::WrongFalloff);
+        }
+        if self.reserved != 0 {
+            return Announced::Refused(Answer::ReservedBit);
+        }
+        if self.rows > MOST_ROWS {
+            return Announced::Refused(Answer::TooManyRows);
+        }
+        let n = self.bytes();
+        Announced::Bytes(n)
+    }
+}
+
+// What the block announces whose first two bytes are a and b.
+pub fn announced_of(a: u8, b: u8) -> Announced
+    ensures { λ r. ⌜ r ≡ Block.announcedOf a b ⌝ }
+{
+    let h = header_of(a, b);
+    h.announced()
 }
 
 // The numbers of a segment that is there, from byte `at` on, into xs.
@@ -438,29 +473,14 @@ pub fn read_airframe(s: &[u8]) -> AirframeRead
         return refused(Answer::WrongLength);
     }
     let h = header_of(s[0], s[1]);
-    if h.version != 1 {
-        return refused(Answer::WrongVersion);
+    let said = h.announced();
+    match said {
+        Announced::Refused(answer) => refused(answer),
+        Announced::Bytes(to) => {
+            if n != to {
+                return refused(Answer::WrongLength);
+            }
+            read_body(s, h)
+        }
     }
-    if h.kind > 1 {
-        return refused(Answer::WrongFalloff);
-    }
-    if h.reserved != 0 {
-        return refused(Answer::ReservedBit);
-    }
-    if h.rows > MOST_ROWS {
-        return refused(Answer::TooManyRows);
-    }
-    if n != h.bytes() {
-        return refused(Answer::WrongLength);
-    }
-    read_body(s, h)
-}
-
-// How many bytes the airframe block has whose first two bytes are a and b.
-pub fn airframe_bytes(a: u8, b: u8) -> usize
-    ensures { λ r. ⌜ r ≡ Block.bytesOf (Block.headerOf a b) ⌝ }
-    ensures { λ r. ⌜ Block.headerBytes ≤ r ⌝ ∗ ⌜ r ≤ Block.mostBytes ⌝ }
-{
-    let h = header_of(a, b);
-    h.bytes()
 }
