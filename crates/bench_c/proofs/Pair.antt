@@ -13,9 +13,10 @@ use Rattle.airframe.specs.declared.Airframe.{Airframe}
 use Rattle.airframe_block.proofs.Reading.{accepted-is-accepted}
 use Rattle.airframe_block.specs.Block.{readAirframeOf}
 use Rattle.airframe_block.specs.declared.AirframeRead.{AirframeRead}
+use Rattle.answers.proofs.Numbers.{number-done}
 use Rattle.answers.specs.Answers.{numberOf, placeOf}
 use Rattle.answers.specs.declared.Answer.{Answer}
-use Rattle.answers.specs.declared.Answer.the-variants.{Departure, Done, NumberOutOfRange, ReservedBit, StateOutside, StepOutside, TooManyRows, WindUnusable, WrongFalloff, WrongLength, WrongVersion}
+use Rattle.answers.specs.declared.Answer.the-variants.{WrongLength}
 use Rattle.arrays.specs.Flight.{flightIn, flightNumbers, quatIn, slotsIn, vecIn}
 use Rattle.flight.proofs.Mirror.{reflect-flight}
 use Rattle.flight.specs.Reflection.{FlightRel, reflectFlight}
@@ -45,19 +46,6 @@ number-none x e = go (numberOf x) (placeOf x) e
   where
     go : (n p : ℕ) → n + 16 * p ≡ 0 → n ≡ 0
     go n p e = omega (arith, e)
-
-number-done : (x : Answer) → numberOf x ≡ 0 → x ≡ Done
-number-done Done e = refl
-number-done WrongLength e = absurd (suc-ne-zero 0 e)
-number-done WrongVersion e = absurd (suc-ne-zero 1 e)
-number-done WrongFalloff e = absurd (suc-ne-zero 2 e)
-number-done ReservedBit e = absurd (suc-ne-zero 3 e)
-number-done TooManyRows e = absurd (suc-ne-zero 4 e)
-number-done (NumberOutOfRange p) e = absurd (suc-ne-zero 5 e)
-number-done StateOutside e = absurd (suc-ne-zero 6 e)
-number-done StepOutside e = absurd (suc-ne-zero 7 e)
-number-done Departure e = absurd (suc-ne-zero 8 e)
-number-done WindUnusable e = absurd (suc-ne-zero 9 e)
 
 -- ---- a run that answers 0 is of a block that was read
 ran-of : (w : Bool) (x : AirframeRead) (f : Flight) (r : Ran) → numberOf (cond w (cond (isDone (x .answer)) r (ended (x .answer) f 0)) (ended WrongLength f 0) .answer) ≡ 0 → numberOf (x .answer) ≡ 0

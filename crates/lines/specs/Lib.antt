@@ -1,5 +1,6 @@
--- What the lines' text says, the ticks behind them, and what a program is asked to read.
+-- What the lines' text says, the ticks behind them, what a program is asked to read, and what stands before the ticks.
 pub mod Asked
 pub mod Glyph
 pub mod Leg
+pub mod Opening
 pub mod Text

@@ -2,14 +2,16 @@
 ghost use mathlib.Core.Path.{_≡_};
 ghost use Prim.Native.Nat.{_*_, _≤_};
 ghost use lib.ListN.{take};
-ghost use Rattle.airframe_block.specs.Block.{headerBytes, mostBytes};
+ghost use Rattle.airframe_block.specs.Block.{announcedOf, headerBytes, mostBytes, readAirframeOf};
 ghost use Rattle.state_block.specs.Layout.{readFullOf, tickBytes};
+ghost use Rattle.lines.specs.Opening.{FromBlock, FromBlocks, FromState, wantedBy};
 use crate::input;
 use crate::input::Filled;
 use crate::input::Input;
 use crate::page;
 use airframe::Airframe;
 use airframe_block::AirframeRead;
+use airframe_block::Announced;
 use airframe_block::HEADER_BYTES;
 use airframe_block::MOST_BYTES;
 use answers::Answer;
@@ -24,16 +26,21 @@ pub struct Opened {
     pub failed: bool,
 }
 
-// The length that the two bytes of a good header announce.
-fn announced(a: u8, b: u8) -> usize
-    ensures { λ r. ⌜ headerBytes ≤ r ⌝ ∗ ⌜ r ≤ mostBytes ⌝ }
+// How many bytes of an airframe block are read, by its first two: of a refused header no more than these.
+fn wanted(a: u8, b: u8) -> usize
+    ensures { λ r. ⌜ r ≡ wantedBy (announcedOf a b) ⌝ ∗ ⌜ headerBytes ≤ r ⌝ ∗ ⌜ r ≤ mostBytes ⌝ }
 {
-    airframe_block::airframe_bytes(a, b)
+    let said = airframe_block::announced_of(a, b);
+    match said {
+        Announced::Bytes(n) => n,
+        Announced::Refused(_) => HEADER_BYTES,
+    }
 }
 
 // The airframe block in the first `end` bytes of s.
 fn airframe_in(s: &[u8], end: usize) -> AirframeRead
     requires { do ⌜ end ≤ (← ⟦s.len()⟧) ⌝ }
+    ensures { λ r. ⌜ r ≡ readAirframeOf (take end (now (s .entry))) ⌝ }
 {
     airframe_block::read_airframe(&s[..end])
 }
@@ -44,28 +51,22 @@ struct AirframeOpened {
     failed: bool,
 }
 
-// The airframe of the header in the first two bytes of s, read into the rest of s.
-fn read_announced(fd: i32, s: &mut [u8; MOST_BYTES]) -> AirframeOpened {
-    let to = announced(s[0], s[1]);
-    let got = input::fill(fd, s, HEADER_BYTES, to);
-    let read = airframe_in(s, got.end);
-    AirframeOpened {
-        read,
-        failed: got.failed,
-    }
-}
-
-// The airframe block: its header alone is wrong in length, or wrong however many bytes follow.
-fn open_airframe(fd: i32) -> AirframeOpened {
+// The airframe block, as far as the input has it.
+fn open_airframe(fd: i32) -> AirframeOpened
+    ensures { λ r. ⌜ FromBlock (r .read) ⌝ }
+{
     let mut s = [0u8; MOST_BYTES];
-    let got = input::fill(fd, &mut s, 0, HEADER_BYTES);
-    let read = airframe_in(&s, got.end);
-    let answer = read.answer;
-    if got.end == HEADER_BYTES {
-        if answer.number() == 1 {
-            return read_announced(fd, &mut s);
-        }
+    let head = input::fill(fd, &mut s, 0, HEADER_BYTES);
+    if head.end < HEADER_BYTES {
+        let read = airframe_in(&s, head.end);
+        return AirframeOpened {
+            read,
+            failed: head.failed,
+        };
     }
+    let to = wanted(s[0], s[1]);
+    let got = input::fill(fd, &mut s, HEADER_BYTES, to);
+    let read = airframe_in(&s, got.end);
     AirframeOpened {
         read,
         failed: got.failed,
@@ -81,7 +82,9 @@ fn state_in(s: &[u8], end: usize) -> StateRead
 }
 
 // The state, behind the airframe.
-fn open_state(fd: i32, airframe: Airframe) -> Opened {
+fn open_state(fd: i32, airframe: Airframe) -> Opened
+    ensures { λ r. ⌜ FromState airframe r ⌝ }
+{
     let mut s = [0u8; state_block::STATE_BYTES];
     let got = input::fill(fd, &mut s, 0, state_block::STATE_BYTES);
     let read = state_in(&s, got.end);
@@ -95,8 +98,10 @@ fn open_state(fd: i32, airframe: Airframe) -> Opened {
     }
 }
 
-// The airframe and the state.
-fn read_blocks(fd: i32) -> Opened {
+// The airframe and the state: behind a refused airframe nothing is read.
+fn read_blocks(fd: i32) -> Opened
+    ensures { λ r. ⌜ FromBlocks r ⌝ }
+{
     let opened = open_airframe(fd);
     let read = opened.read;
     let answer = read.answer;
@@ -115,6 +120,7 @@ fn read_blocks(fd: i32) -> Opened {
 // The airframe and the state of the input; where they are refused, the refusal is written.
 pub fn open(program: &[u8], name: &[u8; 65536], input: Input) -> Opened
     requires { ⌜ input .named ≤ 65536 ⌝ }
+    ensures { λ r. ⌜ FromBlocks r ⌝ }
 {
     let opened = read_blocks(input.fd);
     let answer = opened.answer;

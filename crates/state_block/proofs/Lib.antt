@@ -2,3 +2,4 @@
 pub mod Writing
 pub mod RoundTrip
 pub mod Reflection
+pub mod Reading
