@@ -4,6 +4,7 @@ ghost use mathlib.Core.Path.{_≡_};
 ghost use Prim.Native.Nat.{_*_, _≤_};
 ghost use lib.ListN.{length};
 ghost use Rattle.lines.specs.Leg.{legOver};
+ghost use Rattle.lines.specs.Opening.{Ready};
 ghost use Rattle.lines.specs.Text.{placed};
 ghost use Rattle.state_block.specs.Layout.{tickBytes};
 use airframe::Airframe;
@@ -22,9 +23,9 @@ fn fly_some(a: Airframe, p: Flown, ticks: &[u8; 65536], n: usize, out: &mut [u8;
     lines::fly_ticks(a, p, ticks, 0, n, out)
 }
 
-// Flies all ticks of the input from f.
+// Flies all ticks of the input from f, where airframe and state are accepted.
 fn fly(a: Airframe, f: Flight, input: Input, name: &[u8; 65536])
-    requires { ⌜ input .named ≤ 65536 ⌝ }
+    requires { ⌜ Ready a f ⌝ ∗ ⌜ input .named ≤ 65536 ⌝ }
 {
     let mut ticks = io::large_buffer();
     let mut out = io::large_buffer();

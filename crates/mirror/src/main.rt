@@ -6,13 +6,14 @@ mod track;
 mod verdict;
 
 ghost use Prim.Native.Nat.{_≤_};
+ghost use Rattle.lines.specs.Opening.{Ready};
 use airframe::Airframe;
 use flight::Flight;
 use lines::Input;
 
-// Flies all ticks of the input from f, and their reflection.
+// Flies all ticks of the input from f, and their reflection, where airframe and state are accepted.
 fn fly(a: Airframe, f: Flight, input: Input, name: &[u8; 65536])
-    requires { ⌜ input .named ≤ 65536 ⌝ }
+    requires { ⌜ Ready a f ⌝ ∗ ⌜ input .named ≤ 65536 ⌝ }
 {
     let mut ticks = io::large_buffer();
     let mut out = io::large_buffer();
