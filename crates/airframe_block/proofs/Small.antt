@@ -28,6 +28,7 @@ announced-bytes h n e = go (not (eqb (h .version) 1)) (ltb 1 (h .kind)) (not (eq
   where
     said : Bool → Bool → Bool → Bool → Announced
     said p q r t = cond p (Refused WrongVersion) (cond q (Refused WrongFalloff) (cond r (Refused ReservedBit) (cond t (Refused TooManyRows) (Bytes (bytesOf h)))))
+
     go : (p q r t : Bool) → ltb mostRows (h .rows) ≡ t → said p q r t ≡ Bytes n → (n ≡ bytesOf h) × (h .rows ≤ mostRows)
     go true q r t l e = absurd (not-refused WrongVersion n e)
     go false true r t l e = absurd (not-refused WrongFalloff n e)

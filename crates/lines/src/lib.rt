@@ -17,6 +17,7 @@ pub use input::open_input;
 pub use line::put_line;
 pub use line::put_mirrored_line;
 pub use opening::TICKS_BYTES;
+pub use opening::airframe_wanted;
 pub use opening::open;
 pub use opening::read_ticks;
 pub use page::put_end;

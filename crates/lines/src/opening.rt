@@ -27,7 +27,7 @@ pub struct Opened {
 }
 
 // How many bytes of an airframe block are read, by its first two: of a refused header no more than these.
-fn wanted(a: u8, b: u8) -> usize
+pub fn airframe_wanted(a: u8, b: u8) -> usize
     ensures { λ r. ⌜ r ≡ wantedBy (announcedOf a b) ⌝ ∗ ⌜ headerBytes ≤ r ⌝ ∗ ⌜ r ≤ mostBytes ⌝ }
 {
     let said = airframe_block::announced_of(a, b);
@@ -64,7 +64,7 @@ fn open_airframe(fd: i32) -> AirframeOpened
             failed: head.failed,
         };
     }
-    let to = wanted(s[0], s[1]);
+    let to = airframe_wanted(s[0], s[1]);
     let got = input::fill(fd, &mut s, HEADER_BYTES, to);
     let read = airframe_in(&s, got.end);
     AirframeOpened {

@@ -75,21 +75,13 @@ fn printed(bytes: &[u8; 4096], n: usize, out: &mut [u8; 65536]) -> usize
     requires { ⌜ n ≤ 4096 ⌝ }
     ensures { λ r. ⌜ r ≤ 65536 ⌝ }
 {
-    let head = airframe_in(bytes, least(2, n));
-    let answer = head.answer;
-    if n < 2 {
-        return lines::put_refusal(out, 0, answer);
-    }
-    if answer.number() != 1 {
-        return lines::put_refusal(out, 0, answer);
-    }
-    let to = least(airframe_block::airframe_bytes(bytes[0], bytes[1]), n);
-    let whole = airframe_in(bytes, to);
-    let answer = whole.answer;
+    let to = least(lines::airframe_wanted(bytes[0], bytes[1]), n);
+    let read = airframe_in(bytes, to);
+    let answer = read.answer;
     if answer.number() != 0 {
         return lines::put_refusal(out, 0, answer);
     }
-    after_airframe(whole.airframe, bytes, to, n, out)
+    after_airframe(read.airframe, bytes, to, n, out)
 }
 
 // Whether the line's bytes from `from` to `to` and a newline stand at `at` of the page.

@@ -1,10 +1,10 @@
--- `lines::opening::wanted` meets its contract. Assumes nothing.
+-- `lines::opening::airframe_wanted` meets its contract. Assumes nothing.
 use mathlib.Core.Path.{_∙_, ap, sym}
 use borrow.Author.Needs.{needs}
 use Rattle.airframe_block.proofs.Small.{announced-within}
 use Rattle.lines.specs.Opening.{wantedBy}
-use Rattle.lines.proofs.opening.wanted.Statement.{statement}
-use Rattle.lines.proofs.opening.wanted.Tie as tie
+use Rattle.lines.proofs.opening.airframe_wanted.Statement.{statement}
+use Rattle.lines.proofs.opening.airframe_wanted.Tie as tie
 
 announced-of-requires : tie.Need-announced-of-requires
 announced-of-requires c κs = search needs
@@ -28,5 +28,5 @@ returns-2 c =
     let e = sym (c .before .before .announced-of .ensures) ∙ c .enum-told .given .1 in
     (ap wantedBy (sym e), search needs)
 
-pub wanted-spec : {M : Type 1} → statement M
-wanted-spec = tie.close (tie.spec announced-of-requires enum-known-said enum-told returns returns-2)
+pub airframe-wanted-spec : {M : Type 1} → statement M
+airframe-wanted-spec = tie.close (tie.spec announced-of-requires enum-known-said enum-told returns returns-2)
