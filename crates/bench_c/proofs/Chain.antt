@@ -3,7 +3,6 @@
 use Prim.Native.Nat.{_%_, _*_, _+_, _/_, _<_, ℕ}
 use borrow.Author.Tests.{eq-eqb, ltb-true}
 use denote.Floats.{is-true}
-use lib.Dec.{T, ltb}
 use lib.Ieee.{Float}
 use lib.ListN.{length}
 use mathlib.Core.Bool.{false, true}
@@ -12,9 +11,9 @@ use mathlib.Core.Path.{_∙_, _≡_, ap, refl}
 use native.Mathlib.Omega.{arith}
 use Rattle.airframe.specs.declared.Airframe.{Airframe}
 use Rattle.airframe_block.specs.Block.{readAirframeOf}
+use Rattle.answers.proofs.Numbers.{number-small}
 use Rattle.answers.specs.Answers.{numberOf, placeOf}
 use Rattle.answers.specs.declared.Answer.{Answer}
-use Rattle.answers.specs.declared.Answer.the-variants.{Departure, Done, NumberOutOfRange, ReservedBit, StateOutside, StepOutside, TooManyRows, WindUnusable, WrongFalloff, WrongLength, WrongVersion}
 use Rattle.arrays.proofs.RoundTrip.{flight-again}
 use Rattle.arrays.specs.Airframe.{airframeIn, airframeNumbersCount}
 use Rattle.arrays.specs.Flight.{flightIn, slotsIn, tickIn}
@@ -63,19 +62,6 @@ tick-left : (a : Airframe) (state : List Float) (t : Tick) → Left state (tickO
 tick-left a state t = of-tick (Left state) a (flightIn state) t (λ x n. refused-left state x (some-eqb (numberOf x) n)) (λ p. next-left a state (flightIn state) t (scales-are-eight state) (rotors-are-eight state))
 
 -- ---- what a reply tells
-number-small : (x : Answer) → T (ltb (numberOf x) 16)
-number-small Done = tt
-number-small WrongLength = tt
-number-small WrongVersion = tt
-number-small WrongFalloff = tt
-number-small ReservedBit = tt
-number-small TooManyRows = tt
-number-small (NumberOutOfRange p) = tt
-number-small StateOutside = tt
-number-small StepOutside = tt
-number-small Departure = tt
-number-small WindUnusable = tt
-
 reply-number : (x : Answer) → replyOf x % 16 ≡ numberOf x
 unfolding replyOf
 reply-number x = go (numberOf x) (placeOf x) (ltb-true _ _ (is-true _ (number-small x)))
