@@ -1,5 +1,5 @@
 -- `fly::main` meets its contract: what it flies is accepted. Assumes nothing.
-use mathlib.Core.Path.{_∙_, sym}
+use native.Mathlib.Omega.{arith}
 use borrow.Author.Needs.{needs}
 use Rattle.lines.proofs.Openings.{opened-ready}
 use Rattle.fly.proofs.main.Statement.{statement}
@@ -31,7 +31,7 @@ fly-requires c κs =
     let n = c .before .before in
     let o = n .before in
     let i = o .before .before .before .before .before .before in
-    (opened-ready (o .«open» .result) (o .«open» .ensures) (sym (n .number .ensures) ∙ c .before .if2 .taken), i .open-input .ensures)
+    (opened-ready (o .«open» .result) (o .«open» .ensures) (omega (arith, n .number .ensures, c .before .if2 .taken)), i .open-input .ensures)
 
 returns-2 : tie.Need-returns-2
 returns-2 c = search needs

@@ -1,5 +1,5 @@
 -- `lines::opening::read_blocks` meets its contract: it goes on behind an accepted airframe, and ends with a refused one. Assumes nothing.
-use mathlib.Core.Path.{_∙_, sym}
+use native.Mathlib.Omega.{arith}
 use borrow.Author.Needs.{needs}
 use Rattle.lines.proofs.Openings.{ends, goes-on}
 use Rattle.lines.specs.Opening.{withoutState}
@@ -19,7 +19,7 @@ returns : tie.Need-returns
 returns c =
     let n = c .before .before in
     let a = n .before .before .before in
-    goes-on (a .open-airframe .result .read) _ (a .open-airframe .ensures) (sym (n .number .ensures) ∙ c .before .if1 .taken) (c .open-state .ensures)
+    goes-on (a .open-airframe .result .read) _ (a .open-airframe .ensures) (omega (arith, n .number .ensures, c .before .if1 .taken)) (c .open-state .ensures)
 
 zero-requires : tie.Need-zero-requires
 zero-requires c κs = search needs
@@ -29,7 +29,7 @@ unfolding withoutState
 returns-2 c =
     let n = c .before .before in
     let a = n .before .before .before in
-    ends (a .open-airframe .result .read) _ (a .open-airframe .ensures) (λ q. c .before .if1 .left (n .number .ensures ∙ q)) (simp (c .zero .ensures))
+    ends (a .open-airframe .result .read) _ (a .open-airframe .ensures) (λ q. omega (arith, n .number .ensures, c .before .if1 .left)) (simp (c .zero .ensures))
 
 pub read-blocks-spec : {M : Type 1} → statement M
 read-blocks-spec =
