@@ -316,8 +316,9 @@ uint64_t bench_run(const uint8_t *airframe_block, size_t airframe_block_len, flo
 /* The run above and its reflection: the same flight with left and right exchanged in airframe, state and ticks. What stands in
  * reflected at first does not matter. The end states go into both arrays of 45 and the counts into both numbers. Where the reply
  * is 0, it is proved that they mirror: in reflected, position and velocity east, i, k, p and r have the opposite sign, every
- * other number is that of state, zeros and NaNs alike, and the counts are equal. Refused as bench_run, where either array is of
- * another length (1) too: both arrays are then as found and both counts 0. */
+ * other number is that of state, zeros and NaNs alike, and the counts are equal. The same is proved, tick by tick, of ticks called one
+ * after another with bench_tick or bench_tick_prepared and of their reflection (docs/MIRROR.md). Refused as bench_run, where either
+ * array is of another length (1) too: both arrays are then as found and both counts 0. */
 uint64_t bench_mirrored_pair(const uint8_t *airframe_block, size_t airframe_block_len, float *state, size_t state_len,
                              float *reflected, size_t reflected_len, const uint8_t *trace, size_t trace_len, uint64_t *accepted,
                              uint64_t *accepted_reflected);
