@@ -1,6 +1,8 @@
 //! The library through the Rust wrapper: `tests` with BENCH_SAMPLE naming a sample flight and
 //! BENCH_SCOPE the page with the limits. Here a flight and refused blocks; beside, the rest.
 
+#[path = "tests/chains.rs"]
+mod chains;
 #[path = "tests/environments.rs"]
 mod environments;
 #[path = "tests/exponents.rs"]
@@ -33,9 +35,21 @@ fn bytes() -> Vec<u8> {
     std::fs::read(file).expect("the sample flight can be read")
 }
 
+/// The flights beside the named one.
+fn sample_files() -> Vec<std::path::PathBuf> {
+    let file = std::env::var("BENCH_SAMPLE").expect("BENCH_SAMPLE names a sample flight");
+    let folder = std::path::Path::new(&file).parent().expect("a folder");
+    let entries = std::fs::read_dir(folder).expect("the folder can be read");
+    let paths = entries.map(|entry| entry.expect("an entry").path());
+    paths.filter(|path| path.extension().is_some_and(|end| end == "bin")).collect()
+}
+
 fn sample() -> Sample {
-    let bytes = bytes();
-    let at = bench::airframe_length(&bytes).expect("a header");
+    flight(&bytes())
+}
+
+fn flight(bytes: &[u8]) -> Sample {
+    let at = bench::airframe_length(bytes).expect("a header");
     Sample {
         airframe: Airframe::read(&bytes[..at]).expect("an accepted airframe"),
         state: bench::read_state(&bytes[at..at + STATE_BYTES]).expect("an accepted state"),
