@@ -2,3 +2,4 @@
 pub mod Range
 pub mod Mirror
 pub mod Parts
+pub mod RoundTrip

@@ -18,7 +18,7 @@ use Rattle.airframe.specs.Acceptance.{firstRefused, insideFrom, limitsAt
 use Rattle.airframe.specs.Numbers.{baseCount, baseNumbers, baseSegment, coefficientNumbers, liftCount, liftFirst, liftNumbers, liftSegment, numbersOf, washNumbers}
 use Rattle.airframe.specs.declared.Airframe.{Airframe}
 use Rattle.airframe.specs.declared.Limits.{Limits}
-use Rattle.airframe.specs.declared.Segment.{Segment}
+use Rattle.airframe.specs.declared.numbers.Segment.{Segment}
 
 -- a segment that is there and where none is refused
 segment-pass : (limits : List Limits) (numbers : List Float) (s : Segment) → s .present ≡ true → segmentOutside limits numbers s ≡ 0 → (k : ℕ) → k < s .count → insideFrom limits numbers (s .first) k ≡ true

@@ -17,7 +17,7 @@ use Rattle.vector.specs.declared.Vec3.{Vec3}
 use Rattle.airframe.specs.Numbers.{baseSegment, liftSegment, numbersOf, washSegment}
 use Rattle.airframe.specs.declared.Airframe.{Airframe}
 use Rattle.airframe.specs.declared.Limits.{Limits}
-use Rattle.airframe.specs.declared.Segment.{Segment}
+use Rattle.airframe.specs.declared.numbers.Segment.{Segment}
 
 -- ---- limits: a line a place, the least and the largest number; 37's are those of a Linear falloff
 abbrev pub range : Float → Float → Limits

@@ -1,5 +1,6 @@
 -- The airframe. Definitions only.
 pub mod Numbers
+pub mod FromNumbers
 pub mod Acceptance
 pub mod Reflection
 pub mod Contracts

@@ -2,22 +2,19 @@
 use Prim.Native.Nat.{_+_, ℕ}
 use lib.Ieee.{Float}
 use lib.ListN.{replicate}
-use mathlib.Core.Bool.{Bool, false, true}
+use mathlib.Core.Bool.{Bool, true}
 use mathlib.Core.List.{List, [], _∷_}
 use Rattle.fixed_wing.specs.declared.AeroCoefficients.{AeroCoefficients}
 use Rattle.fixed_wing.specs.declared.FixedWingModel.{FixedWingModel}
 use Rattle.fixed_wing.specs.declared.ThrustFalloff.{ThrustFalloff}
 use Rattle.fixed_wing.specs.declared.ThrustFalloff.the-variants.{Linear, PitchSpeed}
 use Rattle.float.specs.Notation.{nought}
-use Rattle.motors.specs.Motor.{undriven, zeroLayout}
 use Rattle.motors.specs.declared.MotorGroup.{MotorGroup}
-use Rattle.quadplane_model.specs.Lift.{zeroRotors}
 use Rattle.quadplane_model.specs.declared.LiftRotors.{LiftRotors}
 use Rattle.tailsitter_model.specs.declared.PropWash.{PropWash}
-use Rattle.vector.specs.Vector.{zeroVec}
 use Rattle.vector.specs.declared.Vec3.{Vec3}
 use Rattle.airframe.specs.declared.Airframe.{Airframe}
-use Rattle.airframe.specs.declared.Segment.{Segment}
+use Rattle.airframe.specs.declared.numbers.Segment.{Segment}
 
 abbrev pub falloffNumber : ThrustFalloff → Float
 falloffNumber (Linear n) = n
@@ -90,66 +87,6 @@ liftNumbers l more =
 unfoldable pub numbersOf : Airframe → List Float
 numbersOf a = baseNumbers (a .model) (a .motors) (washNumbers (a .wash) (liftNumbers (a .lift) []))
 
--- the zero airframe, which a refused read gives: all numbers 0, Linear, wash and lift numbers absent, no slot marked
-unfoldable pub zeroCoefficients : AeroCoefficients
-zeroCoefficients = record {
-  «c_lift_0» = nought;
-  «c_lift_alpha» = nought;
-  «alpha_stall_rad» = nought;
-  «stall_sharpness» = nought;
-  «c_drag_0» = nought;
-  oswald = nought;
-  «c_side_beta» = nought;
-  «c_side_rudder» = nought;
-  «c_roll_beta» = nought;
-  «c_roll_p» = nought;
-  «c_roll_r» = nought;
-  «c_roll_aileron» = nought;
-  «c_roll_rudder» = nought;
-  «c_pitch_0» = nought;
-  «c_pitch_alpha» = nought;
-  «post_stall_pitch_share» = nought;
-  «c_pitch_q» = nought;
-  «c_pitch_elevator» = nought;
-  «surface_stall_share» = nought;
-  «c_yaw_beta» = nought;
-  «c_yaw_p» = nought;
-  «c_yaw_r» = nought;
-  «c_yaw_rudder» = nought;
-}
-
-unfoldable pub zeroModel : FixedWingModel
-zeroModel = record {
-  «mass_kg» = nought;
-  «inertia_kgm2» = zeroVec;
-  «wing_area_m2» = nought;
-  «span_m» = nought;
-  «chord_m» = nought;
-  aero = zeroCoefficients;
-  «max_deflection_rad» = zeroVec;
-  «servo_time_constant_s» = nought;
-  «thrust_falloff» = Linear nought;
-  «thrust_line_below_cg_m» = nought;
-}
-
-unfoldable pub zeroWash : PropWash
-zeroWash = record {
-  «disc_area_m2» = nought;
-  «surface_fraction» = nought;
-  «roll_fraction» = nought;
-  «damping_fraction» = nought;
-  «sink_loss» = nought;
-  «pitch_moment» = nought;
-  «stall_pitch_moment» = nought;
-}
-
-unfoldable pub zeroAirframe : Airframe
-zeroAirframe = record {
-  model = zeroModel;
-  «wash_present» = false;
-  wash = zeroWash;
-  motors = undriven zeroLayout nought;
-  weights = replicate 8 zeroVec;
-  «lift_present» = false;
-  lift = zeroRotors;
-}
+-- numbers that are all 0
+abbrev pub zeroNumbers : List Float
+zeroNumbers = replicate numbersCount nought

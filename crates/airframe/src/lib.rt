@@ -1,5 +1,7 @@
 // The airframe: its numbers under their names, the motors along body x, the surfaces' weights, and with their flags the wash and the
 // lift rotors; its acceptance and its reflection.
+mod numbers;
+
 ghost use mathlib.Core.Path.{_≡_};
 ghost use Prim.Native.Nat.{_+_, _≤_};
 ghost use Rattle.airframe.specs.Acceptance as Acceptance;
@@ -8,11 +10,23 @@ ghost use Rattle.airframe.specs.Numbers as Numbers;
 ghost use Rattle.airframe.specs.Reflection as Reflection;
 ghost use Rattle.ordered.specs.Ordered.{allPass};
 ghost use Rattle.ordered.specs.Ordered.{firstFail};
-use fixed_wing::AeroCoefficients;
 use fixed_wing::FixedWingModel;
 use fixed_wing::ThrustFalloff;
 use motors::MotorGroup;
-use motors::MotorLayout;
+pub use numbers::BASE_COUNT;
+pub use numbers::FALLOFF;
+pub use numbers::LIFT_COUNT;
+pub use numbers::LIFT_FIRST;
+pub use numbers::LIFT_TIME_CONSTANT;
+pub use numbers::MOTOR_TIME_CONSTANT;
+pub use numbers::NUMBERS;
+pub use numbers::SERVO_TIME_CONSTANT;
+pub use numbers::Segment;
+pub use numbers::WASH_COUNT;
+pub use numbers::WASH_FIRST;
+pub use numbers::falloff_of;
+pub use numbers::lift_layout_of;
+pub use numbers::motor_layout_of;
 use quadplane_model::LiftRotors;
 use tailsitter_model::PropWash;
 use vector::Vec3;
@@ -37,27 +51,6 @@ pub struct LagConstants {
     pub servo_s: f32,
     pub lift_present: bool,
     pub lift_s: f32,
-}
-
-// The numbers stand in segments: those that every airframe has, the wash's and the lift rotors'.
-pub const BASE_COUNT: usize = 41;
-
-pub const WASH_FIRST: usize = BASE_COUNT;
-
-pub const WASH_COUNT: usize = 7;
-
-pub const LIFT_FIRST: usize = WASH_FIRST + WASH_COUNT;
-
-pub const LIFT_COUNT: usize = 6;
-
-pub const NUMBERS: usize = LIFT_FIRST + LIFT_COUNT;
-
-// Of a segment: whether it is there, the index of its first number, how many numbers it has, and the place of the first.
-pub struct Segment {
-    pub present: bool,
-    pub first: usize,
-    pub count: usize,
-    pub place: u32,
 }
 
 // The least and the largest number of a place.
@@ -120,116 +113,7 @@ pub const LIMITS: [Limits; NUMBERS] = [
     Limits(0.0, 10.0), // 57 drag_per_thrust_n_per_mps
 ];
 
-impl Segment {
-    pub fn base() -> Self
-        ensures { λ r. ⌜ r ≡ Numbers.baseSegment ⌝ }
-    {
-        Segment {
-            present: true,
-            first: 0,
-            count: BASE_COUNT,
-            place: 1,
-        }
-    }
-
-    pub fn wash(present: bool) -> Self
-        ensures { λ r. ⌜ r ≡ Numbers.washSegment present ⌝ }
-    {
-        Segment {
-            present,
-            first: WASH_FIRST,
-            count: WASH_COUNT,
-            place: 42,
-        }
-    }
-
-    pub fn lift(present: bool) -> Self
-        ensures { λ r. ⌜ r ≡ Numbers.liftSegment present ⌝ }
-    {
-        Segment {
-            present,
-            first: LIFT_FIRST,
-            count: LIFT_COUNT,
-            place: 52,
-        }
-    }
-}
-
 impl Airframe {
-    // The numbers, segment by segment, those of an absent segment included.
-    pub fn numbers(self) -> [f32; NUMBERS]
-        ensures { λ r. ⌜ r ≡ Numbers.numbersOf self ⌝ }
-    {
-        let m = self.model;
-        let i = m.inertia_kgm2;
-        let c = m.aero;
-        let d = m.max_deflection_rad;
-        let w = self.wash;
-        let group = self.motors;
-        let layout = group.layout;
-        let lift = self.lift;
-        let rotors = lift.motors;
-        let rotor = rotors.layout;
-        let falloff = m.thrust_falloff;
-        let lost = falloff_number(falloff);
-        [
-            m.mass_kg,
-            i.x,
-            i.y,
-            i.z,
-            m.wing_area_m2,
-            m.span_m,
-            m.chord_m,
-            c.c_lift_0,
-            c.c_lift_alpha,
-            c.alpha_stall_rad,
-            c.stall_sharpness,
-            c.c_drag_0,
-            c.oswald,
-            c.c_side_beta,
-            c.c_side_rudder,
-            c.c_roll_beta,
-            c.c_roll_p,
-            c.c_roll_r,
-            c.c_roll_aileron,
-            c.c_roll_rudder,
-            c.c_pitch_0,
-            c.c_pitch_alpha,
-            c.post_stall_pitch_share,
-            c.c_pitch_q,
-            c.c_pitch_elevator,
-            c.surface_stall_share,
-            c.c_yaw_beta,
-            c.c_yaw_p,
-            c.c_yaw_r,
-            c.c_yaw_rudder,
-            d.x,
-            d.y,
-            d.z,
-            m.servo_time_constant_s,
-            layout.max_thrust_n,
-            layout.thrust_exponent,
-            lost,
-            m.thrust_line_below_cg_m,
-            group.time_constant_s,
-            layout.moment_arm_m,
-            layout.yaw_torque_per_thrust_m,
-            w.disc_area_m2,
-            w.surface_fraction,
-            w.roll_fraction,
-            w.pitch_moment,
-            w.stall_pitch_moment,
-            w.sink_loss,
-            w.damping_fraction,
-            rotor.max_thrust_n,
-            rotor.thrust_exponent,
-            rotor.moment_arm_m,
-            rotor.yaw_torque_per_thrust_m,
-            rotors.time_constant_s,
-            lift.drag_per_thrust_n_per_mps,
-        ]
-    }
-
     // The lowest place whose number is out of range, 0 where the airframe is accepted. Its rows' factors are not in it: whether they
     // all fit is handed in.
     pub fn lowest_place(self, rows_fit: bool) -> u32
@@ -324,16 +208,6 @@ fn row_factors_outside(rows_fit: bool) -> u32
     if rows_fit { 0 } else { 49 }
 }
 
-// The number of either kind of falloff.
-fn falloff_number(falloff: ThrustFalloff) -> f32
-    ensures { λ r. ⌜ r ≡ Numbers.falloffNumber falloff ⌝ }
-{
-    match falloff {
-        ThrustFalloff::Linear(n_per_mps) => n_per_mps,
-        ThrustFalloff::PitchSpeed(full_mps) => full_mps,
-    }
-}
-
 // The limits by place: a PitchSpeed's least number is 0.1.
 pub fn limits_for(falloff: ThrustFalloff) -> [Limits; NUMBERS]
     ensures { λ r. ⌜ r ≡ Acceptance.limitsFor falloff ⌝ }
@@ -342,7 +216,7 @@ pub fn limits_for(falloff: ThrustFalloff) -> [Limits; NUMBERS]
     match falloff {
         ThrustFalloff::Linear(_) => limits,
         ThrustFalloff::PitchSpeed(_) => {
-            limits[36] = Limits(0.1, 10000.0);
+            limits[FALLOFF] = Limits(0.1, 10000.0);
             limits
         }
     }
@@ -427,81 +301,6 @@ pub fn vectors_outside(vectors: [Vec3; 8], limit: f32, place: u32) -> u32
         return 0;
     }
     place
-}
-
-impl Airframe {
-    // The zero airframe, which a refused read gives.
-    pub fn zero() -> Self
-        ensures { λ r. ⌜ r ≡ Numbers.zeroAirframe ⌝ }
-    {
-        let model = zero_model();
-        let wash = PropWash {
-            disc_area_m2: 0.0,
-            surface_fraction: 0.0,
-            roll_fraction: 0.0,
-            damping_fraction: 0.0,
-            sink_loss: 0.0,
-            pitch_moment: 0.0,
-            stall_pitch_moment: 0.0,
-        };
-        let motors = MotorGroup::undriven(MotorLayout::zero(), 0.0);
-        let weights = [Vec3::zeros(); 8];
-        let lift = LiftRotors::zero();
-        Airframe {
-            model,
-            wash_present: false,
-            wash,
-            motors,
-            weights,
-            lift_present: false,
-            lift,
-        }
-    }
-}
-
-fn zero_model() -> FixedWingModel
-    ensures { λ r. ⌜ r ≡ Numbers.zeroModel ⌝ }
-{
-    let aero = AeroCoefficients {
-        c_lift_0: 0.0,
-        c_lift_alpha: 0.0,
-        alpha_stall_rad: 0.0,
-        stall_sharpness: 0.0,
-        c_drag_0: 0.0,
-        oswald: 0.0,
-        c_side_beta: 0.0,
-        c_side_rudder: 0.0,
-        c_roll_beta: 0.0,
-        c_roll_p: 0.0,
-        c_roll_r: 0.0,
-        c_roll_aileron: 0.0,
-        c_roll_rudder: 0.0,
-        c_pitch_0: 0.0,
-        c_pitch_alpha: 0.0,
-        post_stall_pitch_share: 0.0,
-        c_pitch_q: 0.0,
-        c_pitch_elevator: 0.0,
-        surface_stall_share: 0.0,
-        c_yaw_beta: 0.0,
-        c_yaw_p: 0.0,
-        c_yaw_r: 0.0,
-        c_yaw_rudder: 0.0,
-    };
-    let inertia_kgm2 = Vec3::zeros();
-    let max_deflection_rad = Vec3::zeros();
-    let thrust_falloff = ThrustFalloff::Linear(0.0);
-    FixedWingModel {
-        mass_kg: 0.0,
-        inertia_kgm2,
-        wing_area_m2: 0.0,
-        span_m: 0.0,
-        chord_m: 0.0,
-        aero,
-        max_deflection_rad,
-        servo_time_constant_s: 0.0,
-        thrust_falloff,
-        thrust_line_below_cg_m: 0.0,
-    }
 }
 
 impl Airframe {

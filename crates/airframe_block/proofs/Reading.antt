@@ -3,6 +3,7 @@
 use Prim.Native.Nat.{ℕ}
 use borrow.Author.Tests.{eqb-true}
 use lib.Dec.{eqb, ltb}
+use lib.Ieee.{Float}
 use lib.ListN.{length}
 use mathlib.Core.Bool.{Bool, cond, false, not, true}
 use mathlib.Core.List.{List}
@@ -10,7 +11,8 @@ use mathlib.Core.Path.{_≡_, refl}
 use native.Mathlib.Omega.{arith}
 use Rattle.airframe.proofs.Parts.{rows-apart}
 use Rattle.airframe.specs.Acceptance.{lowestPlace, refusedPlace}
-use Rattle.airframe.specs.Numbers.{zeroAirframe, zeroWash}
+use Rattle.airframe.specs.FromNumbers.{liftConstant, liftDrag, liftLayoutOf, washOf, zeroAirframe}
+use Rattle.airframe.specs.Numbers.{zeroNumbers}
 use Rattle.airframe.specs.declared.Airframe.{Airframe}
 use Rattle.answers.specs.declared.Answer.{Answer}
 use Rattle.answers.specs.declared.Answer.the-variants.{Done, NumberOutOfRange, ReservedBit, TooManyRows, WrongFalloff, WrongLength, WrongVersion}
@@ -19,8 +21,7 @@ use Rattle.float.specs.Bytes.{byteAt}
 use Rattle.float.specs.Notation.{nought}
 use Rattle.mixers.specs.Rows.{mostRows}
 use Rattle.mixers.specs.declared.Rows.{Rows}
-use Rattle.motors.specs.Motor.{zeroLayout}
-use Rattle.airframe_block.specs.Block.{acceptedAirframe, airframeBy, announcedBy, badRow, bytesOf, headerOf, liftConstant, liftDrag, liftLayoutOf, numbersFrom, placedAirframe, putNumbers, putSegment, putSegments, readAirframeOf, readAs, readBody, readBy, readRows, refusedAirframe, reservedRow, rowsAt, rowsFrom, segmentsOf, testedAirframe, washFrom}
+use Rattle.airframe_block.specs.Block.{acceptedAirframe, airframeBy, announcedBy, badRow, bytesOf, headerOf, numbersFrom, placedAirframe, putNumbers, putSegment, putSegments, readAirframeOf, readAs, readBody, readBy, readRows, refusedAirframe, reservedRow, rowsAt, rowsFrom, segmentsOf, testedAirframe}
 use Rattle.airframe_block.specs.declared.AirframeRead.{AirframeRead}
 use Rattle.airframe_block.specs.declared.Announced.{Announced}
 use Rattle.airframe_block.specs.declared.Announced.the-variants.{Bytes, Refused}
@@ -110,23 +111,24 @@ pub refused-is-zero : (s : List ℕ) → (readAirframeOf s .answer ≡ Done → 
 refused-is-zero s e = refused-of (readAirframeOf s) (read-outcome s) e
 
 -- the numbers of a wash that is not there are zeros (01, module 5)
-pub absent-wash : (s : List ℕ) (h : Header) → h .wash ≡ false → washFrom (numbersFrom s h) ≡ zeroWash
-unfolding washFrom numbersFrom segmentsOf putSegments putSegment putNumbers zeroWash
+pub absent-wash : (s : List ℕ) (h : Header) → h .wash ≡ false → washOf (numbersFrom s h) ≡ washOf zeroNumbers
+unfolding washOf numbersFrom segmentsOf putSegments putSegment putNumbers
 absent-wash s h e = go (h .lift) refl
   where
-    go : (t : Bool) → h .lift ≡ t → washFrom (numbersFrom s h) ≡ zeroWash
+    go : (t : Bool) → h .lift ≡ t → washOf (numbersFrom s h) ≡ washOf zeroNumbers
     go true l = simp (e, l)
     go false l = simp (e, l)
 
 -- and so are those of lift rotors that are not there (02, 5)
-pub absent-lift : (s : List ℕ) (h : Header)
-    → h .lift ≡ false
-    → (liftLayoutOf (numbersFrom s h) ≡ zeroLayout) × (liftConstant (numbersFrom s h) ≡ nought) × (liftDrag (numbersFrom s h) ≡ nought)
-unfolding liftLayoutOf numbersFrom segmentsOf putSegments putSegment putNumbers zeroLayout
+pub record LiftAbsent (xs : List Float) : Type 0 where
+  pub layout : liftLayoutOf xs ≡ liftLayoutOf zeroNumbers
+  pub constant : liftConstant xs ≡ nought
+  pub drag : liftDrag xs ≡ nought
+
+pub absent-lift : (s : List ℕ) (h : Header) → h .lift ≡ false → LiftAbsent (numbersFrom s h)
+unfolding liftLayoutOf numbersFrom segmentsOf putSegments putSegment putNumbers
 absent-lift s h e = go (h .wash) refl
   where
-    go : (t : Bool)
-        → h .wash ≡ t
-        → (liftLayoutOf (numbersFrom s h) ≡ zeroLayout) × (liftConstant (numbersFrom s h) ≡ nought) × (liftDrag (numbersFrom s h) ≡ nought)
-    go true l = (simp (e, l), simp (e, l), simp (e, l))
-    go false l = (simp (e, l), simp (e, l), simp (e, l))
+    go : (t : Bool) → h .wash ≡ t → LiftAbsent (numbersFrom s h)
+    go true l = record { layout = simp (e, l); constant = simp (e, l); drag = simp (e, l) }
+    go false l = record { layout = simp (e, l); constant = simp (e, l); drag = simp (e, l) }

@@ -8,7 +8,7 @@ use mathlib.Core.Path.{_∙_, _≡_, ap, ap₂, refl, subst, sym}
 use native.Mathlib.Numerals.{add-one}
 use native.Mathlib.Omega.{arith}
 use Rattle.airframe.specs.Numbers.{baseCount, baseSegment, liftCount, liftSegment, numbersCount, washCount, washSegment}
-use Rattle.airframe.specs.declared.Segment.{Segment}
+use Rattle.airframe.specs.declared.numbers.Segment.{Segment}
 use Rattle.mixers.specs.declared.MixRow.{MixRow}
 use Rattle.state_block.specs.Layout.{floatAt, numberBytes}
 use Rattle.airframe_block.specs.Block.{bytesOf, headerBytes, mostBytes, putNumbers, putRows, rowBytes, rowFrom, rowsAt, segmentBytes, segmentsEnd, segmentsOf}

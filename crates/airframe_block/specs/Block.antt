@@ -1,38 +1,31 @@
 -- The airframe block (01, "Blocks", "Airframe"; 02, 5): what its bits and bytes say, and what reading it gives. A block's bytes are a
 -- list of numbers below 256. Definitions only.
-use Prim.Native.Nat.{_%_, _*_, _+_, _-_, _/_, suc, zero, ℕ}
+use Prim.Native.Nat.{_%_, _*_, _+_, _/_, suc, zero, ℕ}
 use lib.Dec.{eqb, ltb}
 use lib.Ieee.{Float, eq}
 use lib.ListN.{getD, length, replicate, set}
 use mathlib.Core.Bool.{Bool, cond, false, not, true}
 use mathlib.Core.List.{List, [], _∷_}
 use Rattle.airframe.specs.Acceptance.{lowestPlace}
-use Rattle.airframe.specs.Numbers.{baseSegment, liftFirst, liftSegment, numbersCount, washSegment, zeroAirframe}
+use Rattle.airframe.specs.FromNumbers.{airframeOf, liftConstant, liftLayoutOf, motorConstant, motorLayoutOf, zeroAirframe}
+use Rattle.airframe.specs.Numbers.{baseSegment, liftSegment, numbersCount, washSegment, zeroNumbers}
 use Rattle.airframe.specs.declared.Airframe.{Airframe}
-use Rattle.airframe.specs.declared.Segment.{Segment}
+use Rattle.airframe.specs.declared.numbers.Segment.{Segment}
 use Rattle.answers.specs.declared.Answer.{Answer}
 use Rattle.answers.specs.declared.Answer.the-variants.{Done, NumberOutOfRange, ReservedBit}
 use Rattle.answers.specs.declared.Answer.the-variants.{TooManyRows, WrongFalloff, WrongLength, WrongVersion}
-use Rattle.fixed_wing.specs.declared.AeroCoefficients.{AeroCoefficients}
-use Rattle.fixed_wing.specs.declared.FixedWingModel.{FixedWingModel}
-use Rattle.fixed_wing.specs.declared.ThrustFalloff.{ThrustFalloff}
-use Rattle.fixed_wing.specs.declared.ThrustFalloff.the-variants.{Linear, PitchSpeed}
 use Rattle.float.specs.Bytes.{byteAt}
 use Rattle.float.specs.Interval.{inside}
 use Rattle.float.specs.Notation.{nought, rounded, sizeOf}
 use Rattle.ordered.specs.Ordered.{firstFail}
 use Rattle.mixers.specs.Rows.{liveOf, mostRows, noRow}
-use Rattle.mixers.specs.Slots.{at}
 use Rattle.mixers.specs.declared.MixRow.{MixRow}
 use Rattle.mixers.specs.declared.Rows.{Rows}
 use Rattle.mixers.specs.declared.Slot.{Slot}
 use Rattle.mixers.specs.declared.Slot.the-variants.{Lift, Motor, Servo}
 use Rattle.motors.specs.Motor.{groupOf, liftGroupOf}
-use Rattle.motors.specs.declared.MotorLayout.{MotorLayout}
 use Rattle.state_block.specs.Layout.{floatAt, numberBytes}
 use Rattle.surfaces.specs.Surface.{surfacesOf}
-use Rattle.tailsitter_model.specs.declared.PropWash.{PropWash}
-use Rattle.vector.specs.Vector.{vec}
 use Rattle.airframe_block.specs.declared.AirframeRead.{AirframeRead}
 use Rattle.airframe_block.specs.declared.Announced.{Announced}
 use Rattle.airframe_block.specs.declared.Announced.the-variants.{Bytes, Refused}
@@ -107,105 +100,7 @@ putSegments s i xs [] = xs
 putSegments s i xs (x ∷ more) = putSegments s (i + segmentBytes x) (putSegment s i xs x) more
 
 unfoldable pub numbersFrom : List ℕ → Header → List Float
-numbersFrom s h = putSegments s headerBytes (replicate numbersCount nought) (segmentsOf h)
-
--- the number of a place up to 48, counted from 1
-abbrev pub place : List Float → ℕ → Float
-place xs p = at xs (p - 1)
-
--- and of a place from 52 on, those of the lift rotors
-abbrev pub liftPlace : List Float → ℕ → Float
-liftPlace xs p = at xs (liftFirst + (p - 52))
-
--- ---- "Airframe numbers by place"
-
--- falloff kind 0 Linear, 1 PitchSpeed
-unfoldable pub falloffOf : ℕ → Float → ThrustFalloff
-falloffOf kind x = cond (eqb kind 0) (Linear x) (PitchSpeed x)
-
--- 8 to 30, the coefficients in their own order
-unfoldable pub coefficientsOf : List Float → AeroCoefficients
-coefficientsOf xs = record {
-  «c_lift_0» = place xs 8;
-  «c_lift_alpha» = place xs 9;
-  «alpha_stall_rad» = place xs 10;
-  «stall_sharpness» = place xs 11;
-  «c_drag_0» = place xs 12;
-  oswald = place xs 13;
-  «c_side_beta» = place xs 14;
-  «c_side_rudder» = place xs 15;
-  «c_roll_beta» = place xs 16;
-  «c_roll_p» = place xs 17;
-  «c_roll_r» = place xs 18;
-  «c_roll_aileron» = place xs 19;
-  «c_roll_rudder» = place xs 20;
-  «c_pitch_0» = place xs 21;
-  «c_pitch_alpha» = place xs 22;
-  «post_stall_pitch_share» = place xs 23;
-  «c_pitch_q» = place xs 24;
-  «c_pitch_elevator» = place xs 25;
-  «surface_stall_share» = place xs 26;
-  «c_yaw_beta» = place xs 27;
-  «c_yaw_p» = place xs 28;
-  «c_yaw_r» = place xs 29;
-  «c_yaw_rudder» = place xs 30;
-}
-
--- 1 mass, 2 to 4 inertia, 5 area, 6 span, 7 chord, 31 to 33 deflections, 34 servo constant, 37 falloff, 38 thrust line
-unfoldable pub modelOf : List Float → ℕ → FixedWingModel
-modelOf xs kind = record {
-  «mass_kg» = place xs 1;
-  «inertia_kgm2» = vec (place xs 2) (place xs 3) (place xs 4);
-  «wing_area_m2» = place xs 5;
-  «span_m» = place xs 6;
-  «chord_m» = place xs 7;
-  aero = coefficientsOf xs;
-  «max_deflection_rad» = vec (place xs 31) (place xs 32) (place xs 33);
-  «servo_time_constant_s» = place xs 34;
-  «thrust_falloff» = falloffOf kind (place xs 37);
-  «thrust_line_below_cg_m» = place xs 38;
-}
-
--- the wash, 42 to 48
-unfoldable pub washFrom : List Float → PropWash
-washFrom xs = record {
-  «disc_area_m2» = place xs 42;
-  «surface_fraction» = place xs 43;
-  «roll_fraction» = place xs 44;
-  «damping_fraction» = place xs 48;
-  «sink_loss» = place xs 47;
-  «pitch_moment» = place xs 45;
-  «stall_pitch_moment» = place xs 46;
-}
-
--- 35 thrust, 36 exponent, 40 the arm, 41 the yaw torque
-unfoldable pub layoutOf : List Float → MotorLayout
-layoutOf xs = record {
-  «moment_arm_m» = place xs 40;
-  «yaw_torque_per_thrust_m» = place xs 41;
-  «max_thrust_n» = place xs 35;
-  «thrust_exponent» = place xs 36;
-}
-
--- 39 motor constant
-abbrev pub motorConstant : List Float → Float
-motorConstant xs = place xs 39
-
--- the lift rotors' (02, 5): 52 thrust, 53 exponent, 54 the arm, 55 the yaw torque
-unfoldable pub liftLayoutOf : List Float → MotorLayout
-liftLayoutOf xs = record {
-  «moment_arm_m» = liftPlace xs 54;
-  «yaw_torque_per_thrust_m» = liftPlace xs 55;
-  «max_thrust_n» = liftPlace xs 52;
-  «thrust_exponent» = liftPlace xs 53;
-}
-
--- 56 lag constant, 57 drag
-abbrev pub liftConstant : List Float → Float
-liftConstant xs = liftPlace xs 56
-
-abbrev pub liftDrag : List Float → Float
-liftDrag xs = liftPlace xs 57
+numbersFrom s h = putSegments s headerBytes zeroNumbers (segmentsOf h)
 
 -- ---- rows: a byte with the kind in bit 7, 1 for a servo, the slot in bits 6..4, 1 for a lift rotor in bit 3 (02, 5) and 0 in the
 -- others; then three factors
@@ -260,15 +155,9 @@ badRow rows = firstFail (rowFitsAt (rows .rows)) 0 (liveOf rows)
 
 -- ---- the airframe: torques and used motors of both groups by module 2, weights by module 3
 unfoldable pub airframeBy : List Float → Header → Rows → Airframe
-airframeBy xs h rows = record {
-  model = modelOf xs (h .kind);
-  «wash_present» = h .wash;
-  wash = washFrom xs;
-  motors = groupOf rows (layoutOf xs) (motorConstant xs);
-  weights = surfacesOf rows .weights;
-  «lift_present» = h .lift;
-  lift = record { motors = liftGroupOf rows (liftLayoutOf xs) (liftConstant xs); «drag_per_thrust_n_per_mps» = liftDrag xs };
-}
+airframeBy xs h rows =
+    airframeOf xs (h .kind) (h .wash) (h .lift) (groupOf rows (motorLayoutOf xs) (motorConstant xs)) (surfacesOf rows .weights)
+    (liftGroupOf rows (liftLayoutOf xs) (liftConstant xs))
 
 -- ---- reading (01, "What the bench replies", the order of an airframe)
 

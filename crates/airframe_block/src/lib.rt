@@ -6,20 +6,15 @@ ghost use Rattle.mixers.specs.Rows.{mostRows};
 ghost use Rattle.state_block.specs.Layout.{numberBytes};
 ghost use Rattle.airframe_block.specs.Block as Block;
 use airframe::Airframe;
+use airframe::LIFT_TIME_CONSTANT;
+use airframe::MOTOR_TIME_CONSTANT;
 use airframe::NUMBERS;
 use airframe::Segment;
 use answers::Answer;
-use fixed_wing::AeroCoefficients;
-use fixed_wing::FixedWingModel;
-use fixed_wing::ThrustFalloff;
 use mixers::MOST_ROWS;
 use mixers::MixRow;
 use mixers::Rows;
 use mixers::Slot;
-use motors::MotorLayout;
-use quadplane_model::LiftRotors;
-use tailsitter_model::PropWash;
-use vector::Vec3;
 
 // What reading an airframe block gives: the reply, and the airframe, all zeros where it is refused.
 pub struct AirframeRead {
@@ -181,107 +176,6 @@ fn read_numbers(s: &[u8], h: Header) -> [f32; NUMBERS]
     read_segment(s, lift_at, washed, lift)
 }
 
-// The falloff of its kind and its number.
-pub fn falloff_of(kind: u8, x: f32) -> ThrustFalloff
-    ensures { λ r. ⌜ r ≡ Block.falloffOf kind x ⌝ }
-{
-    if kind == 0 {
-        return ThrustFalloff::Linear(x);
-    }
-    ThrustFalloff::PitchSpeed(x)
-}
-
-fn coefficients_of(xs: [f32; NUMBERS]) -> AeroCoefficients
-    ensures { λ r. ⌜ r ≡ Block.coefficientsOf xs ⌝ }
-{
-    AeroCoefficients {
-        c_lift_0: xs[7],
-        c_lift_alpha: xs[8],
-        alpha_stall_rad: xs[9],
-        stall_sharpness: xs[10],
-        c_drag_0: xs[11],
-        oswald: xs[12],
-        c_side_beta: xs[13],
-        c_side_rudder: xs[14],
-        c_roll_beta: xs[15],
-        c_roll_p: xs[16],
-        c_roll_r: xs[17],
-        c_roll_aileron: xs[18],
-        c_roll_rudder: xs[19],
-        c_pitch_0: xs[20],
-        c_pitch_alpha: xs[21],
-        post_stall_pitch_share: xs[22],
-        c_pitch_q: xs[23],
-        c_pitch_elevator: xs[24],
-        surface_stall_share: xs[25],
-        c_yaw_beta: xs[26],
-        c_yaw_p: xs[27],
-        c_yaw_r: xs[28],
-        c_yaw_rudder: xs[29],
-    }
-}
-
-// The model of the numbers by place and the falloff's kind.
-pub fn model_of(xs: [f32; NUMBERS], kind: u8) -> FixedWingModel
-    ensures { λ r. ⌜ r ≡ Block.modelOf xs kind ⌝ }
-{
-    let aero = coefficients_of(xs);
-    let inertia_kgm2 = Vec3::new(xs[1], xs[2], xs[3]);
-    let max_deflection_rad = Vec3::new(xs[30], xs[31], xs[32]);
-    let thrust_falloff = falloff_of(kind, xs[36]);
-    FixedWingModel {
-        mass_kg: xs[0],
-        inertia_kgm2,
-        wing_area_m2: xs[4],
-        span_m: xs[5],
-        chord_m: xs[6],
-        aero,
-        max_deflection_rad,
-        servo_time_constant_s: xs[33],
-        thrust_falloff,
-        thrust_line_below_cg_m: xs[37],
-    }
-}
-
-// The wash of the numbers by place.
-pub fn wash_from(xs: [f32; NUMBERS]) -> PropWash
-    ensures { λ r. ⌜ r ≡ Block.washFrom xs ⌝ }
-{
-    PropWash {
-        disc_area_m2: xs[41],
-        surface_fraction: xs[42],
-        roll_fraction: xs[43],
-        damping_fraction: xs[47],
-        sink_loss: xs[46],
-        pitch_moment: xs[44],
-        stall_pitch_moment: xs[45],
-    }
-}
-
-// The layout of the motors along body x.
-pub fn layout_of(xs: [f32; NUMBERS]) -> MotorLayout
-    ensures { λ r. ⌜ r ≡ Block.layoutOf xs ⌝ }
-{
-    MotorLayout {
-        moment_arm_m: xs[39],
-        yaw_torque_per_thrust_m: xs[40],
-        max_thrust_n: xs[34],
-        thrust_exponent: xs[35],
-    }
-}
-
-// The layout of the lift rotors.
-pub fn lift_layout_of(xs: [f32; NUMBERS]) -> MotorLayout
-    ensures { λ r. ⌜ r ≡ Block.liftLayoutOf xs ⌝ }
-{
-    MotorLayout {
-        moment_arm_m: xs[50],
-        yaw_torque_per_thrust_m: xs[51],
-        max_thrust_n: xs[48],
-        thrust_exponent: xs[49],
-    }
-}
-
 // What a row's first byte drives: a motor's with the bit 08 is a lift rotor's.
 fn slot_of(b: u8) -> Slot
     ensures { λ r. ⌜ r ≡ Block.slotOf b ⌝ }
@@ -405,26 +299,18 @@ fn bad_row(rows: Rows) -> usize
 fn airframe_by(xs: [f32; NUMBERS], h: Header, rows: Rows) -> Airframe
     ensures { λ r. ⌜ r ≡ Block.airframeBy xs h rows ⌝ }
 {
-    let mix = lent_rows::mixed(rows, layout_of(xs), xs[38], lift_layout_of(xs), xs[52]);
+    let mix = lent_rows::mixed(
+        rows,
+        airframe::motor_layout_of(xs),
+        xs[MOTOR_TIME_CONSTANT],
+        airframe::lift_layout_of(xs),
+        xs[LIFT_TIME_CONSTANT],
+    );
     let motors = mix.motors;
     let rotors = mix.lift;
     let surfaces = mix.surfaces();
-    let model = model_of(xs, h.kind);
-    let wash = wash_from(xs);
     let weights = surfaces.weights;
-    let lift = LiftRotors {
-        motors: rotors,
-        drag_per_thrust_n_per_mps: xs[53],
-    };
-    Airframe {
-        model,
-        wash_present: h.wash,
-        wash,
-        motors,
-        weights,
-        lift_present: h.lift,
-        lift,
-    }
+    Airframe::from_numbers(xs, h.kind, h.wash, h.lift, motors, weights, rotors)
 }
 
 // A refused block: the reply, and an airframe of zeros.

@@ -1,5 +1,5 @@
--- A state or a tick read from its own array is the same again, and an airframe read from its own array the airframe: so a tick of a prepared airframe is the tick of the airframe that was read. Arrays have 8 elements, which their types
--- tell. Assumes nothing.
+-- A state or a tick read from its own array is the same again, and an airframe read from its own array the airframe: so a tick of a
+-- prepared airframe is the tick of the airframe that was read. Arrays have 8 elements, which their types tell. Assumes nothing.
 use Prim.Native.Nat.{ℕ}
 use lib.Ieee.{nan}
 use lib.IntN.{pos}
@@ -7,9 +7,10 @@ use lib.ListN.{getD, length}
 use mathlib.Core.Bool.{Bool, false, true}
 use mathlib.Core.List.{List, map-id}
 use mathlib.Core.Path.{_∙_, _≡_, ap, refl}
+use Rattle.airframe.proofs.RoundTrip.{airframe-again as of-numbers}
+use Rattle.airframe.specs.FromNumbers.{airframeOf, falloffOf, liftLayoutOf, motorLayoutOf}
 use Rattle.airframe.specs.Numbers.{baseNumbers, coefficientNumbers, falloffNumber, liftNumbers, numbersOf, washNumbers}
 use Rattle.airframe.specs.declared.Airframe.{Airframe}
-use Rattle.airframe_block.specs.Block.{coefficientsOf, falloffOf, layoutOf, liftLayoutOf, modelOf, washFrom}
 use Rattle.float.specs.Lists.{listFrom, listOf}
 use Rattle.mixers.specs.Slots.{flagAt, slots, vecAt as slotVec}
 use Rattle.fixed_wing.specs.declared.ThrustFalloff.{ThrustFalloff}
@@ -18,9 +19,11 @@ use Rattle.flight.specs.declared.Flight.{Flight}
 use Rattle.flight.specs.declared.Tick.{Tick}
 use Rattle.float.proofs.Zeros.{some-not-zero, zero-is-zero}
 use Rattle.mixers.proofs.Slots.{map-slots}
+use Rattle.motors.specs.declared.MotorGroup.{MotorGroup}
 use Rattle.vector.specs.Vector.{vec}
 use Rattle.vector.specs.declared.Vec3.{Vec3}
-use Rattle.arrays.specs.Airframe.{airframeNumber, airframeNumbers, airframeIn, axisOf, flagNumber, flagsIn, groupIn, isSet, kindNumber, kindOf, liftIn, liftNumber, placeAt, placesIn, vecsIn, vecsNumber}
+use Rattle.arrays.specs.Airframe.{airframeIn, airframeNumber, airframeNumbers, airframeWith, axisOf, flagNumber, flagsIn}
+use Rattle.arrays.specs.Airframe.{groupIn, isSet, kindNumber, kindOf, liftNumber, placeAt, placesIn, vecsIn, vecsNumber}
 use Rattle.arrays.specs.Flight.{flightNumbers, flightIn, quatIn, slotsIn, tickIn, tickNumbers, vecIn}
 
 -- a list of 8 by its elements
@@ -82,37 +85,18 @@ pub airframe-again : (a : Airframe)
     → length (a .lift .motors .used) ≡ 8
     → length (a .lift .motors .«torque_per_thrust_m») ≡ 8
     → airframeIn (airframeNumbers a) ≡ a
-unfolding airframeIn groupIn liftIn airframeNumbers airframeNumber liftNumber listOf listFrom placesIn placeAt modelOf layoutOf liftLayoutOf coefficientsOf washFrom numbersOf baseNumbers coefficientNumbers washNumbers liftNumbers flagsIn vecsIn vecIn vecsNumber axisOf
-airframe-again a u t w u' t' = λ i. record {
-  model = record {
-    «mass_kg» = a .model .«mass_kg»;
-    «inertia_kgm2» = a .model .«inertia_kgm2»;
-    «wing_area_m2» = a .model .«wing_area_m2»;
-    «span_m» = a .model .«span_m»;
-    «chord_m» = a .model .«chord_m»;
-    aero = a .model .aero;
-    «max_deflection_rad» = a .model .«max_deflection_rad»;
-    «servo_time_constant_s» = a .model .«servo_time_constant_s»;
-    «thrust_falloff» = falloff-again (a .model .«thrust_falloff») i;
-    «thrust_line_below_cg_m» = a .model .«thrust_line_below_cg_m»;
-  };
-  «wash_present» = flag-again (a .«wash_present») i;
-  wash = a .wash;
-  motors = record {
-    layout = a .motors .layout;
-    «time_constant_s» = a .motors .«time_constant_s»;
-    used = flags-again (a .motors .used) u i;
-    «torque_per_thrust_m» = vecs-again (a .motors .«torque_per_thrust_m») t i;
-  };
-  weights = vecs-again (a .weights) w i;
-  «lift_present» = flag-again (a .«lift_present») i;
-  lift = record {
-    motors = record {
-      layout = a .lift .motors .layout;
-      «time_constant_s» = a .lift .motors .«time_constant_s»;
-      used = flags-again (a .lift .motors .used) u' i;
-      «torque_per_thrust_m» = vecs-again (a .lift .motors .«torque_per_thrust_m») t' i;
-    };
-    «drag_per_thrust_n_per_mps» = a .lift .«drag_per_thrust_n_per_mps»;
-  };
-}
+unfolding airframeIn airframeWith groupIn airframeNumbers airframeNumber liftNumber listOf listFrom placesIn placeAt motorLayoutOf liftLayoutOf numbersOf baseNumbers coefficientNumbers washNumbers liftNumbers flagsIn vecsIn vecIn vecsNumber axisOf
+airframe-again a u t w u' t' = parts ∙ of-numbers a kind (falloff-again (a .model .«thrust_falloff»))
+  where
+    kind : ℕ
+    kind = kindOf (kindNumber (a .model .«thrust_falloff»))
+
+    motors : MotorGroup → List Bool → List Vec3 → MotorGroup
+    motors g bs vs = record { layout = g .layout; «time_constant_s» = g .«time_constant_s»; used = bs; «torque_per_thrust_m» = vs }
+
+    parts : airframeIn (airframeNumbers a) ≡ airframeOf (numbersOf a) kind (a .«wash_present») (a .«lift_present») (a .motors) (a .weights) (a .lift .motors)
+    parts = λ i.
+        airframeOf (numbersOf a) kind (flag-again (a .«wash_present») i) (flag-again (a .«lift_present») i)
+        (motors (a .motors) (flags-again (a .motors .used) u i) (vecs-again (a .motors .«torque_per_thrust_m») t i))
+        (vecs-again (a .weights) w i)
+        (motors (a .lift .motors) (flags-again (a .lift .motors .used) u' i) (vecs-again (a .lift .motors .«torque_per_thrust_m») t' i))

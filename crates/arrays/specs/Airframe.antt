@@ -7,9 +7,9 @@ use lib.Dec.{eqb, ltb}
 use lib.Ieee.{Float, eq}
 use mathlib.Core.Bool.{Bool, cond, not}
 use mathlib.Core.List.{List}
+use Rattle.airframe.specs.FromNumbers.{airframeOf, liftConstant, liftLayoutOf, motorConstant, motorLayoutOf}
 use Rattle.airframe.specs.Numbers.{liftCount, liftFirst, numbersCount, numbersOf, washCount, washFirst}
 use Rattle.airframe.specs.declared.Airframe.{Airframe}
-use Rattle.airframe_block.specs.Block.{layoutOf, liftConstant, liftDrag, liftLayoutOf, modelOf, motorConstant, washFrom}
 use Rattle.float.specs.Lists.{listOf}
 use Rattle.mixers.specs.Slots.{at, flagAt, slots, vecAt as slotVec}
 use Rattle.fixed_wing.specs.declared.ThrustFalloff.{ThrustFalloff}
@@ -17,7 +17,6 @@ use Rattle.fixed_wing.specs.declared.ThrustFalloff.the-variants.{Linear, PitchS
 use Rattle.float.specs.Notation.{nought, one}
 use Rattle.motors.specs.declared.MotorGroup.{MotorGroup}
 use Rattle.motors.specs.declared.MotorLayout.{MotorLayout}
-use Rattle.quadplane_model.specs.declared.LiftRotors.{LiftRotors}
 use Rattle.vector.specs.declared.Vec3.{Vec3}
 use Rattle.arrays.specs.Flight.{vecIn}
 
@@ -83,23 +82,16 @@ groupIn xs l tau i = record {
   «torque_per_thrust_m» = vecsIn xs (i + 8);
 }
 
--- the lift rotors, ps being the numbers by place
-unfoldable pub liftIn : List Float → List Float → LiftRotors
-liftIn xs ps = record {
-  motors = groupIn xs (liftLayoutOf ps) (liftConstant ps) liftUsedAt;
-  «drag_per_thrust_n_per_mps» = liftDrag ps;
-}
+-- the airframe, ps being the numbers by place
+unfoldable pub airframeWith : List Float → List Float → Airframe
+airframeWith xs ps =
+    airframeOf ps (kindOf (at xs kindAt)) (isSet (at xs washAt)) (isSet (at xs liftPresentAt))
+    (groupIn xs (motorLayoutOf ps) (motorConstant ps) usedAt)
+    (vecsIn xs weightsAt)
+    (groupIn xs (liftLayoutOf ps) (liftConstant ps) liftUsedAt)
 
 unfoldable pub airframeIn : List Float → Airframe
-airframeIn xs = record {
-  model = modelOf (placesIn xs) (kindOf (at xs kindAt));
-  «wash_present» = isSet (at xs washAt);
-  wash = washFrom (placesIn xs);
-  motors = groupIn xs (layoutOf (placesIn xs)) (motorConstant (placesIn xs)) usedAt;
-  weights = vecsIn xs weightsAt;
-  «lift_present» = isSet (at xs liftPresentAt);
-  lift = liftIn xs (placesIn xs);
-}
+airframeIn xs = airframeWith xs (placesIn xs)
 
 -- ---- to an array
 

@@ -18,7 +18,6 @@ use flight::Flight;
 use flight::Tick;
 use motors::MotorGroup;
 use motors::MotorLayout;
-use quadplane_model::LiftRotors;
 use vector::Quaternion;
 use vector::Vec3;
 
@@ -64,6 +63,9 @@ pub const TORQUES_AT: usize = USED_AT + 8;
 pub const WEIGHTS_AT: usize = TORQUES_AT + 3 * 8;
 
 pub const LIFT_NUMBERS_AT: usize = WEIGHTS_AT + 3 * 8;
+
+const LIFT_CONSTANT_AT: usize = LIFT_NUMBERS_AT
+    + (airframe::LIFT_TIME_CONSTANT - airframe::LIFT_FIRST);
 
 pub const LIFT_PRESENT_AT: usize = LIFT_NUMBERS_AT + airframe::LIFT_COUNT;
 
@@ -345,41 +347,34 @@ fn group_in(xs: &[f32], layout: MotorLayout, time_constant_s: f32, used_at: usiz
     }
 }
 
-// The lift rotors.
-fn lift_in(xs: &[f32], places: [f32; NUMBERS]) -> LiftRotors
-    requires { do ⌜ AirframeArray.airframeNumbersCount ≤ (← ⟦xs.len()⟧) ⌝ }
-    ensures { λ r. ⌜ r ≡ AirframeArray.liftIn (now (xs .entry)) places ⌝ }
-{
-    let layout = airframe_block::lift_layout_of(places);
-    let motors = group_in(xs, layout, places[52], LIFT_USED_AT);
-    LiftRotors {
-        motors,
-        drag_per_thrust_n_per_mps: places[53],
-    }
-}
-
 // The airframe of an array of numbers.
 pub fn airframe_in(xs: &[f32]) -> Airframe
     requires { do ⌜ AirframeArray.airframeNumbersCount ≤ (← ⟦xs.len()⟧) ⌝ }
     ensures { λ r. ⌜ r ≡ AirframeArray.airframeIn (now (xs .entry)) ⌝ }
 {
     let places = places_in(xs);
-    let model = airframe_block::model_of(places, kind_of(xs[KIND_AT]));
-    let wash = airframe_block::wash_from(places);
+    let kind = kind_of(xs[KIND_AT]);
     let wash_present = is_set(xs[WASH_AT]);
-    let motors = group_in(xs, airframe_block::layout_of(places), places[38], USED_AT);
-    let weights = vecs_in(xs, WEIGHTS_AT);
     let lift_present = is_set(xs[LIFT_PRESENT_AT]);
-    let lift = lift_in(xs, places);
-    Airframe {
-        model,
+    let layout = airframe::motor_layout_of(places);
+    let motors = group_in(xs, layout, places[airframe::MOTOR_TIME_CONSTANT], USED_AT);
+    let weights = vecs_in(xs, WEIGHTS_AT);
+    let lift_layout = airframe::lift_layout_of(places);
+    let rotors = group_in(
+        xs,
+        lift_layout,
+        places[airframe::LIFT_TIME_CONSTANT],
+        LIFT_USED_AT,
+    );
+    Airframe::from_numbers(
+        places,
+        kind,
         wash_present,
-        wash,
+        lift_present,
         motors,
         weights,
-        lift_present,
-        lift,
-    }
+        rotors,
+    )
 }
 
 // The lowest place out of range of the airframe of an array, by the array's own numbers; 0 where it is accepted.
@@ -388,7 +383,7 @@ pub fn refused_place(xs: &[f32]) -> u32
     ensures { λ r. ⌜ r ≡ refusedPlace (AirframeArray.airframeIn (now (xs .entry))) ⌝ }
 {
     let places = places_in(xs);
-    let falloff = airframe_block::falloff_of(kind_of(xs[KIND_AT]), xs[36]);
+    let falloff = airframe::falloff_of(kind_of(xs[KIND_AT]), xs[airframe::FALLOFF]);
     let wash_present = is_set(xs[WASH_AT]);
     let torques = vecs_in(xs, TORQUES_AT);
     let weights = vecs_in(xs, WEIGHTS_AT);
@@ -424,10 +419,10 @@ pub fn lag_constants_in(xs: &[f32]) -> LagConstants
 {
     let lift_present = is_set(xs[LIFT_PRESENT_AT]);
     LagConstants {
-        motor_s: xs[38],
-        servo_s: xs[33],
+        motor_s: xs[airframe::MOTOR_TIME_CONSTANT],
+        servo_s: xs[airframe::SERVO_TIME_CONSTANT],
         lift_present,
-        lift_s: xs[LIFT_NUMBERS_AT + 4],
+        lift_s: xs[LIFT_CONSTANT_AT],
     }
 }
 

@@ -9,14 +9,14 @@ use mathlib.Core.Path.{_∙_, _≡_, ap, refl, sym}
 use native.Mathlib.Omega.{arith}
 use Rattle.ordered.proofs.Ordered.{pass-none, pass-some, some-eqb}
 use Rattle.float.specs.Interval.{inside}
-use Rattle.float.specs.Notation.{minusOne, nought, one, rounded}
+use Rattle.float.specs.Notation.{minusOne, nought, one}
 use Rattle.ordered.specs.Ordered.{allPass}
 use Rattle.ordered.specs.Ordered.{after, firstFail, orElse}
 use Rattle.vector.specs.Rotation.{quatNorm}
 use Rattle.vector.specs.Vector.{vecInside}
 use Rattle.vector.specs.declared.Quaternion.{Quaternion}
 use Rattle.vector.specs.declared.Vec3.{Vec3}
-use Rattle.flight.specs.Envelope.{attitudeOutside, isInside, outsideOf, slotInside, slotsOutside, vecOutside}
+use Rattle.flight.specs.Envelope.{attitudeOutside, isInside, maxNorm, maxPosition, maxRate, maxVelocity, minNorm, outsideOf, slotInside, slotsOutside, vecOutside}
 use Rattle.flight.specs.State.{bodyOf}
 use Rattle.flight.specs.declared.Flight.{Flight}
 
@@ -58,9 +58,9 @@ none-vec limit v = go (inside (neg limit) limit (v .x)) (inside (neg limit) limi
     go true false z = refl
     go false y z = refl
 
-pub none-attitude : (q : Quaternion) → eqb (attitudeOutside q) 0 ≡ inside (rounded 9 10) (rounded 11 10) (quatNorm q)
+pub none-attitude : (q : Quaternion) → eqb (attitudeOutside q) 0 ≡ inside minNorm maxNorm (quatNorm q)
 unfolding attitudeOutside
-none-attitude q = go (inside (rounded 9 10) (rounded 11 10) (quatNorm q))
+none-attitude q = go (inside minNorm maxNorm (quatNorm q))
   where
     go : (t : Bool) → eqb (cond t 0 1) 0 ≡ t
     go true = refl
@@ -80,10 +80,10 @@ and a b = cond b a false
 
 pub inside-all : (f : Flight)
     → isInside f
-    ≡ and (vecInside (rounded 1000000 1) (bodyOf f .«position_ned_m»))
-    (and (vecInside (rounded 1000 1) (bodyOf f .«velocity_ned_mps»))
-    (and (inside (rounded 9 10) (rounded 11 10) (quatNorm (bodyOf f .attitude)))
-    (and (vecInside (rounded 100 1) (bodyOf f .«angular_velocity_radps»))
+    ≡ and (vecInside maxPosition (bodyOf f .«position_ned_m»))
+    (and (vecInside maxVelocity (bodyOf f .«velocity_ned_mps»))
+    (and (inside minNorm maxNorm (quatNorm (bodyOf f .attitude)))
+    (and (vecInside maxRate (bodyOf f .«angular_velocity_radps»))
     (and (allPass (slotInside nought one (f .motors)) 8)
     (and (allPass (slotInside minusOne one (f .servos)) 8)
     (and (allPass (slotInside nought one (f .«thrust_scale»)) 8) (allPass (slotInside nought one (f .«lift_motors»)) 8)))))))

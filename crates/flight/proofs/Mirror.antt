@@ -4,12 +4,11 @@ use mathlib.Core.Bool.{Bool}
 use mathlib.Core.Path.{_≡_, refl}
 use Rattle.body.proofs.Mirror.{reflect-body}
 use Rattle.float.proofs.Bounds.{inside-rel}
-use Rattle.float.specs.Notation.{rounded}
 use Rattle.vector.proofs.Mirror.{quat-norm-is, reflect-vec}
 use Rattle.vector.specs.Reflection.{QuatRel, VecRel}
 use Rattle.vector.specs.declared.Quaternion.{Quaternion}
 use Rattle.vector.specs.declared.Vec3.{Vec3}
-use Rattle.flight.specs.Envelope.{attitudeOutside, outsideOf, vecOutside}
+use Rattle.flight.specs.Envelope.{attitudeOutside, maxPosition, maxRate, maxVelocity, outsideOf, vecOutside}
 use Rattle.flight.specs.Reflection.{FlightRel, TickRel, reflectFlight, reflectTick}
 use Rattle.flight.specs.State.{bodyOf}
 use Rattle.flight.specs.declared.Flight.{Flight}
@@ -25,7 +24,7 @@ attitude-outside-is h = rw (quat-norm-is h)
 
 pub outside-is : {f f' : Flight} → FlightRel f f' → outsideOf f' ≡ outsideOf f
 unfolding outsideOf
-outside-is h = rw (vec-outside-is (rounded 1000000 1) (h .body .position), vec-outside-is (rounded 1000 1) (h .body .velocity), attitude-outside-is (h .body .attitude), vec-outside-is (rounded 100 1) (h .body .rates), h .motors, h .servos, h .scale, h .lift)
+outside-is h = rw (vec-outside-is maxPosition (h .body .position), vec-outside-is maxVelocity (h .body .velocity), attitude-outside-is (h .body .attitude), vec-outside-is maxRate (h .body .rates), h .motors, h .servos, h .scale, h .lift)
 
 -- the reflection by flipping sign bits is one
 pub reflect-flight : (f : Flight) → FlightRel f (reflectFlight f)

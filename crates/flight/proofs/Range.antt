@@ -5,27 +5,27 @@ use mathlib.Core.Path.{_∙_, _≡_, sym}
 use Rattle.float.proofs.Bounds.{inside-within}
 use Rattle.ordered.proofs.Ordered.{after-none, all-pass, or-none}
 use Rattle.float.specs.Interval.{Within}
-use Rattle.float.specs.Notation.{minusOne, nought, one, rounded}
+use Rattle.float.specs.Notation.{minusOne, nought, one}
 use Rattle.mixers.specs.Slots.{at}
 use Rattle.vector.proofs.Range.{VecWithin, vec-within}
 use Rattle.vector.specs.Rotation.{quatNorm}
 use Rattle.flight.proofs.Inside.{none-attitude, none-vec}
-use Rattle.flight.specs.Envelope.{outsideOf, slotInside, slotsOutside}
+use Rattle.flight.specs.Envelope.{maxNorm, maxPosition, maxVelocity, minNorm, outsideOf, slotInside, slotsOutside}
 use Rattle.flight.specs.State.{bodyOf}
 use Rattle.flight.specs.declared.Flight.{Flight}
 
 module _ (f : Flight) (e : outsideOf f ≡ 0) where
-  pub position-within : VecWithin (rounded 1000000 1) (bodyOf f .«position_ned_m»)
+  pub position-within : VecWithin maxPosition (bodyOf f .«position_ned_m»)
   unfolding outsideOf
   position-within = vec-within _ _ (sym (none-vec _ _) ∙ eq-eqb _ _ (or-none _ _ e .0))
 
-  pub velocity-within : VecWithin (rounded 1000 1) (bodyOf f .«velocity_ned_mps»)
+  pub velocity-within : VecWithin maxVelocity (bodyOf f .«velocity_ned_mps»)
   unfolding outsideOf
   velocity-within =
       let v = after-none _ _ (or-none _ _ (or-none _ _ e .1) .0) in
       vec-within _ _ (sym (none-vec _ _) ∙ eq-eqb _ _ v)
 
-  pub norm-within : Within (rounded 9 10) (rounded 11 10) (quatNorm (bodyOf f .attitude))
+  pub norm-within : Within minNorm maxNorm (quatNorm (bodyOf f .attitude))
   unfolding outsideOf
   norm-within =
       let n = after-none _ _ (or-none _ _ (or-none _ _ (or-none _ _ e .1) .1) .0) in

@@ -27,6 +27,22 @@ zeroFlight =
     (replicate 8 nought)
     (replicate 8 nought)
 
+-- ---- the limits: sizes of position, velocity and rates, and N's ends
+abbrev pub maxPosition : Float
+maxPosition = rounded 1000000 1
+
+abbrev pub maxVelocity : Float
+maxVelocity = rounded 1000 1
+
+abbrev pub maxRate : Float
+maxRate = rounded 100 1
+
+abbrev pub minNorm : Float
+minNorm = rounded 9 10
+
+abbrev pub maxNorm : Float
+maxNorm = rounded 11 10
+
 -- a vector's components, each within ±limit
 unfoldable pub vecOutside : Float → Vec3 → ℕ
 vecOutside limit v =
@@ -42,17 +58,17 @@ unfoldable pub slotsOutside : Float → Float → List Float → ℕ
 slotsOutside low high xs = firstFail (slotInside low high xs) 0 8
 
 unfoldable pub attitudeOutside : Quaternion → ℕ
-attitudeOutside q = cond (inside (rounded 9 10) (rounded 11 10) (quatNorm q)) 0 1
+attitudeOutside q = cond (inside minNorm maxNorm (quatNorm q)) 0 1
 
 -- a line for each part, as they stand in a state, after as many tests as stand before it: 3 of position, 3 of velocity, the
 -- attitude, 3 of rates, 8 motors, 8 servos, 8 thrust scales, 8 lift rotors
 unfoldable pub outsideOf : Flight → ℕ
 outsideOf f =
     firstOf
-    (vecOutside (rounded 1000000 1) (bodyOf f .«position_ned_m»)
-    ∷ after 3 (vecOutside (rounded 1000 1) (bodyOf f .«velocity_ned_mps»))
+    (vecOutside maxPosition (bodyOf f .«position_ned_m»)
+    ∷ after 3 (vecOutside maxVelocity (bodyOf f .«velocity_ned_mps»))
     ∷ after 6 (attitudeOutside (bodyOf f .attitude))
-    ∷ after 7 (vecOutside (rounded 100 1) (bodyOf f .«angular_velocity_radps»))
+    ∷ after 7 (vecOutside maxRate (bodyOf f .«angular_velocity_radps»))
     ∷ after 10 (slotsOutside nought one (f .motors))
     ∷ after 18 (slotsOutside minusOne one (f .servos))
     ∷ after 26 (slotsOutside nought one (f .«thrust_scale»))

@@ -44,6 +44,26 @@ pub struct Tick {
     pub servos: [f32; 8],
 }
 
+// The envelope's limits (01, "Envelope"): sizes of position, velocity and rates, N of the attitude, running values of motors and lift
+// rotors with the thrust scales, and running values of servos.
+const MAX_POSITION_M: f32 = 1000000.0;
+
+const MAX_VELOCITY_MPS: f32 = 1000.0;
+
+const MAX_RATE_RADPS: f32 = 100.0;
+
+const MIN_NORM_SQUARED: f32 = 0.9;
+
+const MAX_NORM_SQUARED: f32 = 1.1;
+
+const MIN_RUNNING: f32 = 0.0;
+
+const MAX_RUNNING: f32 = 1.0;
+
+const MIN_SERVO: f32 = -1.0;
+
+const MAX_SERVO: f32 = 1.0;
+
 impl Flight {
     // A state of zeros.
     pub fn zero() -> Self
@@ -151,30 +171,21 @@ impl Flight {
         let positions = self.servos;
         let thrust_scale = self.thrust_scale;
         let lifting = self.lift_motors;
-        let position = vec_outside(body.position_ned_m, 1000000.0);
-        let velocity = ordered::after(3, vec_outside(body.velocity_ned_mps, 1000.0));
+        let position = vec_outside(body.position_ned_m, MAX_POSITION_M);
+        let velocity = ordered::after(3, vec_outside(body.velocity_ned_mps, MAX_VELOCITY_MPS));
         let attitude = ordered::after(6, attitude_outside(body.attitude));
-        let rates = ordered::after(7, vec_outside(body.angular_velocity_radps, 100.0));
-        let motors = ordered::after(10, slots_outside(running, 0.0, 1.0));
-        let servos = ordered::after(18, slots_outside(positions, -1.0, 1.0));
-        let scales = ordered::after(26, slots_outside(thrust_scale, 0.0, 1.0));
-        let lift = ordered::after(34, slots_outside(lifting, 0.0, 1.0));
-        ordered::or_else(
-            position,
-            ordered::or_else(
-                velocity,
-                ordered::or_else(
-                    attitude,
-                    ordered::or_else(
-                        rates,
-                        ordered::or_else(
-                            motors,
-                            ordered::or_else(servos, ordered::or_else(scales, lift)),
-                        ),
-                    ),
-                ),
-            ),
-        )
+        let rates = ordered::after(7, vec_outside(body.angular_velocity_radps, MAX_RATE_RADPS));
+        let motors = ordered::after(10, slots_outside(running, MIN_RUNNING, MAX_RUNNING));
+        let servos = ordered::after(18, slots_outside(positions, MIN_SERVO, MAX_SERVO));
+        let scales = ordered::after(26, slots_outside(thrust_scale, MIN_RUNNING, MAX_RUNNING));
+        let lift = ordered::after(34, slots_outside(lifting, MIN_RUNNING, MAX_RUNNING));
+        let after_servos = ordered::or_else(scales, lift);
+        let after_motors = ordered::or_else(servos, after_servos);
+        let after_rates = ordered::or_else(motors, after_motors);
+        let after_attitude = ordered::or_else(rates, after_rates);
+        let after_velocity = ordered::or_else(attitude, after_attitude);
+        let after_position = ordered::or_else(velocity, after_velocity);
+        ordered::or_else(position, after_position)
     }
 }
 
@@ -182,7 +193,7 @@ impl Flight {
 fn attitude_outside(attitude: Quaternion) -> u32
     ensures { λ r. ⌜ r ≡ Envelope.attitudeOutside attitude ⌝ ∗ ⌜ r ≤ 1 ⌝ }
 {
-    if float::inside(attitude.norm_squared(), 0.9, 1.1) {
+    if float::inside(attitude.norm_squared(), MIN_NORM_SQUARED, MAX_NORM_SQUARED) {
         return 0;
     }
     1
@@ -244,27 +255,25 @@ impl Flight {
         let positions = self.servos;
         let thrust_scale = self.thrust_scale;
         let lifting = self.lift_motors;
-        let position = body.position_ned_m.is_inside(1000000.0);
-        let velocity = body.velocity_ned_mps.is_inside(1000.0);
-        let attitude = float::inside(body.attitude.norm_squared(), 0.9, 1.1);
-        let rates = body.angular_velocity_radps.is_inside(100.0);
-        let motors = slots_inside(running, 0.0, 1.0);
-        let servos = slots_inside(positions, -1.0, 1.0);
-        let scales = slots_inside(thrust_scale, 0.0, 1.0);
-        let lift = slots_inside(lifting, 0.0, 1.0);
-        ordered::both(
-            position,
-            ordered::both(
-                velocity,
-                ordered::both(
-                    attitude,
-                    ordered::both(
-                        rates,
-                        ordered::both(motors, ordered::both(servos, ordered::both(scales, lift))),
-                    ),
-                ),
-            ),
-        )
+        let position = body.position_ned_m.is_inside(MAX_POSITION_M);
+        let velocity = body.velocity_ned_mps.is_inside(MAX_VELOCITY_MPS);
+        let attitude = float::inside(
+            body.attitude.norm_squared(),
+            MIN_NORM_SQUARED,
+            MAX_NORM_SQUARED,
+        );
+        let rates = body.angular_velocity_radps.is_inside(MAX_RATE_RADPS);
+        let motors = slots_inside(running, MIN_RUNNING, MAX_RUNNING);
+        let servos = slots_inside(positions, MIN_SERVO, MAX_SERVO);
+        let scales = slots_inside(thrust_scale, MIN_RUNNING, MAX_RUNNING);
+        let lift = slots_inside(lifting, MIN_RUNNING, MAX_RUNNING);
+        let after_servos = ordered::both(scales, lift);
+        let after_motors = ordered::both(servos, after_servos);
+        let after_rates = ordered::both(motors, after_motors);
+        let after_attitude = ordered::both(rates, after_rates);
+        let after_velocity = ordered::both(attitude, after_attitude);
+        let after_position = ordered::both(velocity, after_velocity);
+        ordered::both(position, after_position)
     }
 }
 

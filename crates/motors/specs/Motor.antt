@@ -23,15 +23,6 @@ use Rattle.motors.specs.declared.MotorLayout.{MotorLayout}
 use Rattle.motors.specs.declared.MotorWrench.{MotorWrench}
 use Rattle.motors.specs.declared.Motors.{Motors}
 
--- of the zero airframe
-unfoldable pub zeroLayout : MotorLayout
-zeroLayout = record {
-  «moment_arm_m» = nought;
-  «yaw_torque_per_thrust_m» = nought;
-  «max_thrust_n» = nought;
-  «thrust_exponent» = nought;
-}
-
 -- ---- a group from the mixer's rows
 
 -- no row yet: no motor is driven

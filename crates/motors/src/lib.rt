@@ -209,18 +209,6 @@ impl Motors {
 }
 
 impl MotorLayout {
-    // Of the zero airframe.
-    pub fn zero() -> Self
-        ensures { λ r. ⌜ r ≡ Motor.zeroLayout ⌝ }
-    {
-        MotorLayout {
-            moment_arm_m: 0.0,
-            yaw_torque_per_thrust_m: 0.0,
-            max_thrust_n: 0.0,
-            thrust_exponent: 0.0,
-        }
-    }
-
     // A motor row's torque for each N.
     fn torque(self, row: MixRow) -> Vec3
         ensures { λ r. ⌜ r ≡ Motor.torqueOf self row ⌝ }

@@ -6,17 +6,13 @@ use mathlib.Core.List.{List}
 use mathlib.Core.Path.{_≡_}
 use Rattle.body.specs.declared.Wrench.{Wrench}
 use Rattle.float.specs.Notation.{_⊗_, nought, one}
-use Rattle.motors.specs.Motor.{spinOf, undriven, wrenchWithoutFalloff, zeroLayout}
+use Rattle.motors.specs.Motor.{spinOf, wrenchWithoutFalloff}
 use Rattle.motors.specs.Reflection.{GroupRel, reflectGroup}
 use Rattle.motors.specs.declared.MotorWrench.{MotorWrench}
 use Rattle.motors.specs.declared.Motors.{Motors}
 use Rattle.vector.specs.Vector.{scaleOf, subOf, vec}
 use Rattle.vector.specs.declared.Vec3.{Vec3}
 use Rattle.quadplane_model.specs.declared.LiftRotors.{LiftRotors}
-
--- of the zero airframe
-unfoldable pub zeroRotors : LiftRotors
-zeroRotors = record { motors = undriven zeroLayout nought; «drag_per_thrust_n_per_mps» = nought }
 
 -- thrust scales of 1
 unfoldable pub rotorsAt : LiftRotors → List Float → Motors

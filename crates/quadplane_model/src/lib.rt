@@ -5,7 +5,6 @@ ghost use Rattle.quadplane_model.specs.Lift as Lift;
 use body::Wrench;
 use libm::POWER_COUNT;
 use motors::MotorGroup;
-use motors::MotorLayout;
 use motors::Motors;
 use vector::Vec3;
 
@@ -17,17 +16,6 @@ pub struct LiftRotors {
 }
 
 impl LiftRotors {
-    // Those of the zero airframe: zeros, and no rotor is used.
-    pub fn zero() -> Self
-        ensures { λ r. ⌜ r ≡ Lift.zeroRotors ⌝ }
-    {
-        let motors = MotorGroup::undriven(MotorLayout::zero(), 0.0);
-        LiftRotors {
-            motors,
-            drag_per_thrust_n_per_mps: 0.0,
-        }
-    }
-
     // The rotors at their running values, each as strong as built: thrust scales are the other group's.
     pub fn at(self, running: [f32; 8]) -> Motors
         ensures { λ r. ⌜ r ≡ Lift.rotorsAt self running ⌝ }

@@ -9,7 +9,7 @@ use Rattle.air.proofs.Range.{density-at-0, density-in}
 use Rattle.air.specs.Density.{densityAt, densityOf, lastRow}
 use Rattle.airframe.specs.declared.Airframe.{Airframe}
 use Rattle.flight.proofs.Range.{position-within}
-use Rattle.flight.specs.Envelope.{outsideOf}
+use Rattle.flight.specs.Envelope.{maxPosition, outsideOf}
 use Rattle.flight.specs.declared.Flight.{Flight}
 use Rattle.flight.specs.declared.Tick.{Tick}
 use Rattle.float.proofs.Interval.{within-finite}
@@ -25,7 +25,7 @@ pub density-for-in : (f : Flight) → outsideOf f ≡ 0 → Within (densityOf la
 unfolding densityFor
 density-for-in f e =
     let z = f .«down_m» in
-    let limit = rounded 1000000 1 in
+    let limit = maxPosition in
     let down : T (finite z) = within-finite (neg limit) limit z (unfold neg round in tt) (unfold round in tt) (position-within f e .z) in
     density-in (neg z) (finite-number (neg z) (neg-finite z down))
 

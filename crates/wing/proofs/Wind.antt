@@ -13,13 +13,13 @@ use Rattle.answers.specs.Answers.{numberOf}
 use Rattle.answers.specs.declared.Answer.the-variants.{WindUnusable}
 use Rattle.body.specs.Motion.{airVelocity}
 use Rattle.flight.proofs.Range.{norm-within, velocity-within}
-use Rattle.flight.specs.Envelope.{isInside, outsideOf}
+use Rattle.flight.specs.Envelope.{isInside, maxNorm, outsideOf}
 use Rattle.flight.specs.State.{bodyOf}
 use Rattle.flight.specs.declared.Flight.{Flight}
 use Rattle.flight.specs.declared.Tick.{Tick}
 use Rattle.float.proofs.Sizes.{twoTo}
 use Rattle.float.specs.Interval.{inside}
-use Rattle.float.specs.Notation.{rounded}
+use Rattle.float.specs.Notation.{}
 use Rattle.lag.specs.Lag.{stepLeast, stepMost}
 use Rattle.vector.proofs.Range.{VecSized, inverse-rotate-sized, norm-sized, sub-sized, vec-within, within-sized}
 use Rattle.vector.specs.declared.Vec3.{Vec3}
@@ -44,8 +44,8 @@ pub air-sized : (f : Flight) (wind : Vec3) → isInside f ≡ true → windUsabl
 unfolding airOf airVelocity isInside windUsable
 air-sized f wind i u =
     let e : outsideOf f ≡ 0 = eqb-true _ _ i in
-    let small : T (le (twoTo 2) (rounded 11 10)) → ⊥ = λ h. absurd (unfold le round in h) in
-    inverse-rotate-sized (bodyOf f .attitude) (norm-sized (bodyOf f .attitude) (rounded 11 10) small (norm-within f e .at-most))
+    let small : T (le (twoTo 2) maxNorm) → ⊥ = λ h. absurd (unfold le round in h) in
+    inverse-rotate-sized (bodyOf f .attitude) (norm-sized (bodyOf f .attitude) maxNorm small (norm-within f e .at-most))
     (sub-sized 11 (within-sized 10 (velocity-within f e) (unfold le round in tt)) (within-sized 8 (vec-within windMost wind u) (unfold le round in tt)) (unfold le add round in tt))
 
 pub accepted-air : (a : Airframe) (f : Flight) (t : Tick) → numberOf (tickOf a f t .report .answer) ≡ 0 → VecSized 18 (airOf (bodyOf f) (t .«wind_ned_mps»))

@@ -5,7 +5,7 @@ use mathlib.Core.Path.{subst, sym}
 use native.Mathlib.Omega.{arith}
 use Rattle.airframe.specs.Acceptance.{firstRefused}
 use Rattle.airframe.specs.Numbers.{numbersCount}
-use Rattle.airframe.specs.declared.Segment.{Segment}
+use Rattle.airframe.specs.declared.numbers.Segment.{Segment}
 use borrow.Author.Needs.{needs}
 use Rattle.airframe.proofs.first_refused.Statement.{statement}
 use Rattle.airframe.proofs.first_refused.Tie as tie

@@ -1,5 +1,5 @@
 -- `arrays::airframe_in` meets its contract. Assumes nothing.
-use Rattle.arrays.specs.Airframe.{airframeIn}
+use Rattle.arrays.specs.Airframe.{airframeIn, airframeWith}
 use borrow.Author.Needs.{needs}
 use Rattle.arrays.proofs.airframe_in.Statement.{statement}
 use Rattle.arrays.proofs.airframe_in.Tie as tie
@@ -13,20 +13,20 @@ shared-slice-read-kind-of c = search needs
 kind-of-requires : tie.Need-kind-of-requires
 kind-of-requires c κs = search needs
 
-model-of-requires : tie.Need-model-of-requires
-model-of-requires c κs = search needs
-
-wash-from-requires : tie.Need-wash-from-requires
-wash-from-requires c κs = search needs
-
 shared-slice-read-is-set : tie.Need-shared-slice-read-is-set
 shared-slice-read-is-set c = search needs
 
 is-set-requires : tie.Need-is-set-requires
 is-set-requires c κs = search needs
 
-layout-of-requires : tie.Need-layout-of-requires
-layout-of-requires c κs = search needs
+shared-slice-read-is-set-2 : tie.Need-shared-slice-read-is-set-2
+shared-slice-read-is-set-2 c = search needs
+
+is-set-requires-2 : tie.Need-is-set-requires-2
+is-set-requires-2 c κs = search needs
+
+motor-layout-of-requires : tie.Need-motor-layout-of-requires
+motor-layout-of-requires c κs = search needs
 
 array-read-group-in : tie.Need-array-read-group-in
 array-read-group-in c = search needs
@@ -37,32 +37,36 @@ group-in-requires c κs = search needs
 vecs-in-requires : tie.Need-vecs-in-requires
 vecs-in-requires c κs = search needs
 
-shared-slice-read-is-set-2 : tie.Need-shared-slice-read-is-set-2
-shared-slice-read-is-set-2 c = search needs
+lift-layout-of-requires : tie.Need-lift-layout-of-requires
+lift-layout-of-requires c κs = search needs
 
-is-set-requires-2 : tie.Need-is-set-requires-2
-is-set-requires-2 c κs = search needs
+array-read-group-in-2 : tie.Need-array-read-group-in-2
+array-read-group-in-2 c = search needs
 
-lift-in-requires : tie.Need-lift-in-requires
-lift-in-requires c κs = search needs
+group-in-requires-2 : tie.Need-group-in-requires-2
+group-in-requires-2 c κs = search needs
+
+from-numbers-requires : tie.Need-from-numbers-requires
+from-numbers-requires c κs = search needs
 
 returns : tie.Need-returns
-unfolding airframeIn
+unfolding airframeIn airframeWith
 returns c =
-    let f = c .before in
-    let v = f .before .before in
-    let l = v .before .before in
-    let w = l .before .before .before in
+    let r = c .before in
+    let v = r .before .before in
+    let m = v .before .before in
+    let l = m .before in
+    let w = l .before .before in
     let k = w .before .before in
     simp (
-      c .lift-in .ensures,
-      f .is-set2 .ensures,
+      c .from-numbers .ensures,
+      r .group-in2 .ensures,
+      r .before .lift-layout-of .ensures,
       v .vecs-in .ensures,
       v .before .group-in .ensures,
-      l .layout-of .ensures,
-      l .before .is-set .ensures,
-      w .wash-from .ensures,
-      w .before .model-of .ensures,
+      m .motor-layout-of .ensures,
+      l .is-set2 .ensures,
+      w .is-set .ensures,
       k .kind-of .ensures,
       k .before .before .places-in .ensures,
     )
@@ -74,15 +78,16 @@ airframe-in-spec =
     places-in-requires
     shared-slice-read-kind-of
     kind-of-requires
-    model-of-requires
-    wash-from-requires
     shared-slice-read-is-set
     is-set-requires
-    layout-of-requires
+    shared-slice-read-is-set-2
+    is-set-requires-2
+    motor-layout-of-requires
     array-read-group-in
     group-in-requires
     vecs-in-requires
-    shared-slice-read-is-set-2
-    is-set-requires-2
-    lift-in-requires
+    lift-layout-of-requires
+    array-read-group-in-2
+    group-in-requires-2
+    from-numbers-requires
     returns)

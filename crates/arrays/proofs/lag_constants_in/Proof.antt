@@ -1,8 +1,8 @@
 -- `arrays::lag_constants_in` meets its contract: the constants are read where the array has them. Assumes nothing.
 use Rattle.airframe.specs.Contracts.{lagConstantsOf}
-use Rattle.airframe_block.specs.Block.{modelOf}
+use Rattle.airframe.specs.FromNumbers.{airframeOf, modelOf}
 use Rattle.float.specs.Lists.{listFrom, listOf}
-use Rattle.arrays.specs.Airframe.{airframeIn, groupIn, liftIn, placeAt, placesIn}
+use Rattle.arrays.specs.Airframe.{airframeIn, airframeWith, groupIn, placeAt, placesIn}
 use borrow.Author.Needs.{needs}
 use Rattle.arrays.proofs.lag_constants_in.Statement.{statement}
 use Rattle.arrays.proofs.lag_constants_in.Tie as tie
@@ -19,17 +19,11 @@ shared-slice-read-t4 c = search needs
 shared-slice-read-t7 : tie.Need-shared-slice-read-t7
 shared-slice-read-t7 c = search needs
 
-add-t8 : tie.Need-add-t8
-add-t8 c = search needs
-
-mul-t9 : tie.Need-mul-t9
-mul-t9 c = search needs
-
-shared-slice-read-t11 : tie.Need-shared-slice-read-t11
-shared-slice-read-t11 c = search needs
+shared-slice-read-t9 : tie.Need-shared-slice-read-t9
+shared-slice-read-t9 c = search needs
 
 returns : tie.Need-returns
-unfolding lagConstantsOf airframeIn groupIn liftIn modelOf placesIn placeAt listOf listFrom
+unfolding lagConstantsOf airframeIn airframeWith airframeOf groupIn modelOf placesIn placeAt listOf listFrom
 returns c = simp (c .before .before .before .is-set .ensures)
 
 pub lag-constants-in-spec : {M : Type 1} → statement M
@@ -40,7 +34,5 @@ lag-constants-in-spec =
     is-set-requires
     shared-slice-read-t4
     shared-slice-read-t7
-    add-t8
-    mul-t9
-    shared-slice-read-t11
+    shared-slice-read-t9
     returns)

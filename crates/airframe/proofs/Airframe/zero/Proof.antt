@@ -1,36 +1,51 @@
 -- `airframe::Airframe::zero` meets its contract. Assumes nothing.
 use lib.Ieee.{ofBits}
-use Rattle.airframe.specs.Numbers.{zeroAirframe, zeroWash}
 use borrow.Author.Needs.{needs}
+use Rattle.airframe.specs.FromNumbers.{zeroAirframe}
 use Rattle.airframe.proofs.Airframe.zero.Statement.{statement}
 use Rattle.airframe.proofs.Airframe.zero.Tie as tie
 
-zero-model-requires : tie.Need-zero-model-requires
-zero-model-requires c κs = search needs
-
-zero-requires : tie.Need-zero-requires
-zero-requires c κs = search needs
+motor-layout-of-requires : tie.Need-motor-layout-of-requires
+motor-layout-of-requires c κs = search needs
 
 undriven-requires : tie.Need-undriven-requires
 undriven-requires c κs = search needs
 
+lift-layout-of-requires : tie.Need-lift-layout-of-requires
+lift-layout-of-requires c κs = search needs
+
+undriven-requires-2 : tie.Need-undriven-requires-2
+undriven-requires-2 c κs = search needs
+
 zeros-requires : tie.Need-zeros-requires
 zeros-requires c κs = search needs
 
-zero-requires-2 : tie.Need-zero-requires-2
-zero-requires-2 c κs = search needs
+from-numbers-requires : tie.Need-from-numbers-requires
+from-numbers-requires c κs = search needs
 
 returns : tie.Need-returns
-unfolding zeroAirframe zeroWash ofBits
-returns c = let s = c .before .before in simp (c .zero2 .ensures, c .before .zeros .ensures, s .undriven .ensures, s .before .zero .ensures, s .before .before .zero-model .ensures)
+unfolding zeroAirframe ofBits
+returns c =
+    let z = c .before in
+    let r = z .before in
+    let m = r .before .before in
+    simp (
+      c .from-numbers .ensures,
+      z .zeros .ensures,
+      r .undriven2 .ensures,
+      r .before .lift-layout-of .ensures,
+      m .undriven .ensures,
+      m .before .motor-layout-of .ensures,
+    )
 
 pub zero-spec : {M : Type 1} → statement M
 zero-spec =
     tie.close
     (tie.spec
-    zero-model-requires
-    zero-requires
+    motor-layout-of-requires
     undriven-requires
+    lift-layout-of-requires
+    undriven-requires-2
     zeros-requires
-    zero-requires-2
+    from-numbers-requires
     returns)

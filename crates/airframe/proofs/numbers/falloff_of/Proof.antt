@@ -1,8 +1,8 @@
--- `airframe_block::falloff_of` meets its contract. Assumes nothing.
+-- `airframe::numbers::falloff_of` meets its contract. Assumes nothing.
 use borrow.Author.Tests.{ne-eqb}
-use Rattle.airframe_block.specs.Block.{falloffOf}
-use Rattle.airframe_block.proofs.falloff_of.Statement.{statement}
-use Rattle.airframe_block.proofs.falloff_of.Tie as tie
+use Rattle.airframe.specs.FromNumbers.{falloffOf}
+use Rattle.airframe.proofs.numbers.falloff_of.Statement.{statement}
+use Rattle.airframe.proofs.numbers.falloff_of.Tie as tie
 
 returns : tie.Need-returns
 unfolding falloffOf

@@ -1,9 +1,9 @@
--- `airframe_block::lift_layout_of` meets its contract. Assumes nothing.
+-- `airframe::numbers::lift_layout_of` meets its contract. Assumes nothing.
 use mathlib.Core.Path.{refl}
-use Rattle.airframe_block.specs.Block.{liftLayoutOf}
+use Rattle.airframe.specs.FromNumbers.{liftLayoutOf}
 use borrow.Author.Needs.{needs}
-use Rattle.airframe_block.proofs.lift_layout_of.Statement.{statement}
-use Rattle.airframe_block.proofs.lift_layout_of.Tie as tie
+use Rattle.airframe.proofs.numbers.lift_layout_of.Statement.{statement}
+use Rattle.airframe.proofs.numbers.lift_layout_of.Tie as tie
 
 array-read-t5 : tie.Need-array-read-t5
 array-read-t5 c = search needs

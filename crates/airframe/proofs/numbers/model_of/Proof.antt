@@ -1,8 +1,8 @@
--- `airframe_block::model_of` meets its contract. Assumes nothing.
+-- `airframe::numbers::model_of` meets its contract. Assumes nothing.
 use borrow.Author.Needs.{needs}
-use Rattle.airframe_block.specs.Block.{modelOf}
-use Rattle.airframe_block.proofs.model_of.Statement.{statement}
-use Rattle.airframe_block.proofs.model_of.Tie as tie
+use Rattle.airframe.specs.FromNumbers.{modelOf}
+use Rattle.airframe.proofs.numbers.model_of.Statement.{statement}
+use Rattle.airframe.proofs.numbers.model_of.Tie as tie
 
 coefficients-of-requires : tie.Need-coefficients-of-requires
 coefficients-of-requires c κs = search needs

@@ -1,9 +1,9 @@
--- `airframe_block::layout_of` meets its contract. Assumes nothing.
+-- `airframe::numbers::motor_layout_of` meets its contract. Assumes nothing.
 use mathlib.Core.Path.{refl}
 use borrow.Author.Needs.{needs}
-use Rattle.airframe_block.specs.Block.{layoutOf}
-use Rattle.airframe_block.proofs.layout_of.Statement.{statement}
-use Rattle.airframe_block.proofs.layout_of.Tie as tie
+use Rattle.airframe.specs.FromNumbers.{motorLayoutOf}
+use Rattle.airframe.proofs.numbers.motor_layout_of.Statement.{statement}
+use Rattle.airframe.proofs.numbers.motor_layout_of.Tie as tie
 
 array-read-t5 : tie.Need-array-read-t5
 array-read-t5 c = search needs
@@ -18,9 +18,9 @@ array-read-t14 : tie.Need-array-read-t14
 array-read-t14 c = search needs
 
 returns : tie.Need-returns
-unfolding layoutOf
+unfolding motorLayoutOf
 returns c = refl
 
-pub layout-of-spec : {M : Type 1} → statement M
-layout-of-spec =
+pub motor-layout-of-spec : {M : Type 1} → statement M
+motor-layout-of-spec =
     tie.close (tie.spec array-read-t5 array-read-t8 array-read-t11 array-read-t14 returns)

@@ -1,9 +1,9 @@
--- `airframe_block::coefficients_of` meets its contract. Assumes nothing.
+-- `airframe::numbers::coefficients_of` meets its contract. Assumes nothing.
 use mathlib.Core.Path.{refl}
 use borrow.Author.Needs.{needs}
-use Rattle.airframe_block.specs.Block.{coefficientsOf}
-use Rattle.airframe_block.proofs.coefficients_of.Statement.{statement}
-use Rattle.airframe_block.proofs.coefficients_of.Tie as tie
+use Rattle.airframe.specs.FromNumbers.{coefficientsOf}
+use Rattle.airframe.proofs.numbers.coefficients_of.Statement.{statement}
+use Rattle.airframe.proofs.numbers.coefficients_of.Tie as tie
 
 array-read-t5 : tie.Need-array-read-t5
 array-read-t5 c = search needs
