@@ -336,7 +336,7 @@ fn rate_moments(model: FixedWingModel, rate_scale: f32, rates_radps: Vec3) -> Ve
 }
 
 // Q(V).
-pub fn pressure_area_n(model: FixedWingModel, speed_mps: f32, density_kgpm3: f32) -> f32
+fn pressure_area_n(model: FixedWingModel, speed_mps: f32, density_kgpm3: f32) -> f32
     ensures { λ r. ⌜ r ≡ Wrench.pressureArea model «speed_mps» «density_kgpm3» ⌝ }
 {
     0.5 * density_kgpm3 * speed_mps * speed_mps * model.wing_area_m2
@@ -363,14 +363,14 @@ fn exponent(x: f32, powers: &[f32; POWER_COUNT]) -> f32
 }
 
 // The attached wing's lift, a line over alpha.
-pub fn linear_lift(c: AeroCoefficients, alpha_rad: f32) -> f32
+fn linear_lift(c: AeroCoefficients, alpha_rad: f32) -> f32
     ensures { λ r. ⌜ r ≡ Coefficients.linearLift c «alpha_rad» ⌝ }
 {
     c.c_lift_0 + c.c_lift_alpha * alpha_rad
 }
 
 // From the line to the plate's lift, by the blend.
-pub fn lift_coefficient(
+fn lift_coefficient(
     c: AeroCoefficients,
     alpha_rad: f32,
     blend: f32,
@@ -384,7 +384,7 @@ pub fn lift_coefficient(
 }
 
 // The attached wing's drag: parasitic, and induced by its lift.
-pub fn drag_coefficient(model: FixedWingModel, linear_lift: f32) -> f32
+fn drag_coefficient(model: FixedWingModel, linear_lift: f32) -> f32
     ensures { λ r. ⌜ r ≡ Coefficients.dragCoefficient model «linear_lift» ⌝ }
 {
     let c = model.aero;

@@ -13,7 +13,6 @@ ghost use Rattle.ordered.specs.Ordered.{firstFail};
 use fixed_wing::FixedWingModel;
 use fixed_wing::ThrustFalloff;
 use motors::MotorGroup;
-pub use numbers::BASE_COUNT;
 pub use numbers::FALLOFF;
 pub use numbers::LIFT_COUNT;
 pub use numbers::LIFT_FIRST;
@@ -56,7 +55,7 @@ pub struct LagConstants {
 // The least and the largest number of a place.
 pub struct Limits(f32, f32);
 
-pub const LIMITS: [Limits; NUMBERS] = [
+const LIMITS: [Limits; NUMBERS] = [
     Limits(0.01, 1000.0), // 1 mass_kg
     Limits(0.0001, 1000.0), // 2 inertia_kgm2, roll
     Limits(0.0001, 1000.0), // 3 inertia_kgm2, pitch
@@ -209,7 +208,7 @@ fn row_factors_outside(rows_fit: bool) -> u32
 }
 
 // The limits by place: a PitchSpeed's least number is 0.1.
-pub fn limits_for(falloff: ThrustFalloff) -> [Limits; NUMBERS]
+fn limits_for(falloff: ThrustFalloff) -> [Limits; NUMBERS]
     ensures { λ r. ⌜ r ≡ Acceptance.limitsFor falloff ⌝ }
 {
     let mut limits = LIMITS;
@@ -294,7 +293,7 @@ fn vectors_inside(vectors: [Vec3; 8], limit: f32) -> bool
 }
 
 // `place` where a slot's vector has a component larger in size than `limit`, else 0.
-pub fn vectors_outside(vectors: [Vec3; 8], limit: f32, place: u32) -> u32
+fn vectors_outside(vectors: [Vec3; 8], limit: f32, place: u32) -> u32
     ensures { λ r. ⌜ r ≡ Acceptance.vectorsOutside limit place vectors ⌝ }
 {
     if vectors_inside(vectors, limit) {

@@ -13,7 +13,7 @@ use tailsitter_model::PropWash;
 use vector::Vec3;
 
 // The numbers stand in segments: those that every airframe has, the wash's and the lift rotors'.
-pub const BASE_COUNT: usize = 41;
+const BASE_COUNT: usize = 41;
 
 pub const WASH_FIRST: usize = BASE_COUNT;
 

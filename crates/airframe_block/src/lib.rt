@@ -25,7 +25,7 @@ pub struct AirframeRead {
 // How many bytes the header and a row have.
 pub const HEADER_BYTES: usize = 2;
 
-pub const ROW_BYTES: usize = 13;
+const ROW_BYTES: usize = 13;
 
 // The longest block that a header can announce: its five bits of the row count go up to 31.
 pub const MOST_BYTES: usize = HEADER_BYTES + state_block::NUMBER_BYTES * NUMBERS + ROW_BYTES * 31;

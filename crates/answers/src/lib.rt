@@ -37,6 +37,13 @@ impl Answer {
         }
     }
 
+    // Whether nothing was refused.
+    pub fn is_done(self) -> bool
+        ensures { λ r. ⌜ r ≡ Answers.isDone self ⌝ }
+    {
+        self.number() == 0
+    }
+
     // The place of an airframe number that is out of range; 0 for every other reply.
     pub fn place(self) -> u32
         ensures { λ r. ⌜ r ≡ Answers.placeOf self ⌝ }

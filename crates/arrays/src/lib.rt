@@ -52,26 +52,26 @@ const SERVO_COMMANDS_AT: usize = state_block::SERVO_COMMANDS_AT / state_block::N
 // Of an airframe: its numbers by place up to 48, and then at which number the falloff's kind, the wash's flag, the motors' marks,
 // their torques and the surfaces' weights begin. What a later airframe has besides comes after them: the lift rotors' numbers by
 // place, their flag, marks and torques (02, 5).
-pub const KIND_AT: usize = airframe::WASH_FIRST + airframe::WASH_COUNT;
+const KIND_AT: usize = airframe::WASH_FIRST + airframe::WASH_COUNT;
 
-pub const WASH_AT: usize = KIND_AT + 1;
+const WASH_AT: usize = KIND_AT + 1;
 
-pub const USED_AT: usize = WASH_AT + 1;
+const USED_AT: usize = WASH_AT + 1;
 
-pub const TORQUES_AT: usize = USED_AT + 8;
+const TORQUES_AT: usize = USED_AT + 8;
 
-pub const WEIGHTS_AT: usize = TORQUES_AT + 3 * 8;
+const WEIGHTS_AT: usize = TORQUES_AT + 3 * 8;
 
-pub const LIFT_NUMBERS_AT: usize = WEIGHTS_AT + 3 * 8;
+const LIFT_NUMBERS_AT: usize = WEIGHTS_AT + 3 * 8;
 
 const LIFT_CONSTANT_AT: usize = LIFT_NUMBERS_AT
     + (airframe::LIFT_TIME_CONSTANT - airframe::LIFT_FIRST);
 
-pub const LIFT_PRESENT_AT: usize = LIFT_NUMBERS_AT + airframe::LIFT_COUNT;
+const LIFT_PRESENT_AT: usize = LIFT_NUMBERS_AT + airframe::LIFT_COUNT;
 
-pub const LIFT_USED_AT: usize = LIFT_PRESENT_AT + 1;
+const LIFT_USED_AT: usize = LIFT_PRESENT_AT + 1;
 
-pub const LIFT_TORQUES_AT: usize = LIFT_USED_AT + 8;
+const LIFT_TORQUES_AT: usize = LIFT_USED_AT + 8;
 
 pub const AIRFRAME_NUMBERS: usize = LIFT_TORQUES_AT + 3 * 8;
 
@@ -156,7 +156,7 @@ pub fn tick_in(xs: &[f32]) -> Tick
 }
 
 // A state's numbers in the state block's order.
-pub fn flight_numbers(f: Flight) -> [f32; STATE_NUMBERS]
+fn flight_numbers(f: Flight) -> [f32; STATE_NUMBERS]
     ensures { λ r. ⌜ r ≡ FlightArray.flightNumbers f ⌝ }
 {
     let m = f.motors;
@@ -213,7 +213,7 @@ pub fn flight_numbers(f: Flight) -> [f32; STATE_NUMBERS]
 }
 
 // A tick's numbers in the tick block's order.
-pub fn tick_numbers(t: Tick) -> [f32; TICK_NUMBERS]
+fn tick_numbers(t: Tick) -> [f32; TICK_NUMBERS]
     ensures { λ r. ⌜ r ≡ FlightArray.tickNumbers t ⌝ }
 {
     let w = t.wind_ned_mps;

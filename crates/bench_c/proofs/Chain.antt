@@ -12,7 +12,7 @@ use native.Mathlib.Omega.{arith}
 use Rattle.airframe.specs.declared.Airframe.{Airframe}
 use Rattle.airframe_block.specs.Block.{readAirframeOf}
 use Rattle.answers.proofs.Numbers.{number-small}
-use Rattle.answers.specs.Answers.{numberOf, placeOf}
+use Rattle.answers.specs.Answers.{isDone, numberOf, placeOf}
 use Rattle.answers.specs.declared.Answer.{Answer}
 use Rattle.arrays.proofs.RoundTrip.{flight-again}
 use Rattle.arrays.specs.Airframe.{airframeIn, airframeNumbersCount}
@@ -31,7 +31,7 @@ use Rattle.surfaces.specs.Surface.{moveTo}
 use Rattle.wing.proofs.Passed.{of-tick}
 use Rattle.wing.specs.Tick.{liftSpun, liftedOf, movedOf, nextOf, nextWith, refusedOf, spunOf, steppedOf, tickOf}
 use Rattle.wing.specs.declared.Ticked.{Ticked}
-use Rattle.bench_c.specs.Library.{ArrayCall, TickOutcome, isDone, replyOf, reportNumbers, stateAfterTick, tested, tick, tickLengths, tickPrepared, tickedBy, toldIn}
+use Rattle.bench_c.specs.Library.{ArrayCall, TickOutcome, replyOf, reportNumbers, stateAfterTick, tested, tick, tickLengths, tickPrepared, tickedBy, toldIn}
 
 -- ---- what a tick leaves in the array is the state it hands back
 abbrev Left : List Float → Ticked → Type 0

@@ -14,7 +14,7 @@ use Rattle.airframe_block.proofs.Reading.{accepted-is-accepted}
 use Rattle.airframe_block.specs.Block.{readAirframeOf}
 use Rattle.airframe_block.specs.declared.AirframeRead.{AirframeRead}
 use Rattle.answers.proofs.Numbers.{number-done}
-use Rattle.answers.specs.Answers.{numberOf, placeOf}
+use Rattle.answers.specs.Answers.{isDone, numberOf, placeOf}
 use Rattle.answers.specs.declared.Answer.{Answer}
 use Rattle.answers.specs.declared.Answer.the-variants.{WrongLength}
 use Rattle.arrays.specs.Flight.{flightIn, flightNumbers, quatIn, slotsIn, vecIn}
@@ -28,7 +28,7 @@ use Rattle.run.specs.declared.Pair.{Pair}
 use Rattle.run.specs.declared.Ran.{Ran}
 use Rattle.bench_c.proofs.Chain.{block-flown, prepared-flown}
 use Rattle.bench_c.specs.Contracts.{PairBy}
-use Rattle.bench_c.specs.Library.{PairMirrors, isDone, ranBy, replyOf, stateAfterRun}
+use Rattle.bench_c.specs.Library.{PairMirrors, ranBy, replyOf, stateAfterRun}
 
 -- ---- a pair that is refused
 pub ended-mirror : (x : Answer) (f : Flight) (r : Pair) → r .first ≡ ended x f 0 → r .second ≡ ended x (reflectFlight f) 0 → RanRel (r .first) (r .second)

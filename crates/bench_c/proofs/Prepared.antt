@@ -6,6 +6,7 @@ use borrow.Author.Tests.{eq-eqb}
 use mathlib.Core.Bool.{cond, true}
 use mathlib.Core.List.{List}
 use mathlib.Core.Path.{_≡_, ap}
+use Rattle.answers.specs.Answers.{isDone}
 use Rattle.float.proofs.Lists.{length-listOf}
 use Rattle.airframe.specs.declared.Airframe.{Airframe}
 use Rattle.airframe_block.specs.Block.{readAirframeOf}
@@ -13,7 +14,7 @@ use Rattle.arrays.proofs.RoundTrip.{airframe-again}
 use Rattle.arrays.specs.Airframe.{airframeNumber, airframeNumbers, airframeNumbersCount}
 use Rattle.arrays.specs.Flight.{flightIn, tickIn}
 use Rattle.wing.specs.Tick.{tickOf}
-use Rattle.bench_c.specs.Library.{isDone, prepare, tested, tick, tickLengths, tickPrepared, tickedBy, untested}
+use Rattle.bench_c.specs.Library.{prepare, tested, tick, tickLengths, tickPrepared, tickedBy, untested}
 
 length-numbers : (a : Airframe) → length (airframeNumbers a) ≡ airframeNumbersCount
 unfolding airframeNumbers

@@ -11,7 +11,7 @@ use Rattle.airframe.specs.Reflection.{AirframeRel, reflectAirframe}
 use Rattle.airframe.specs.declared.Airframe.{Airframe}
 use Rattle.airframe_block.specs.Block.{readAirframeOf}
 use Rattle.airframe_block.specs.declared.AirframeRead.{AirframeRead}
-use Rattle.answers.specs.Answers.{numberOf, placeOf}
+use Rattle.answers.specs.Answers.{isDone, numberOf, placeOf}
 use Rattle.answers.specs.declared.Answer.{Answer}
 use Rattle.answers.specs.declared.Answer.the-variants.{WrongLength}
 use Rattle.flight.specs.Reflection.{FlightRel, TickRel, reflectFlight}
@@ -35,9 +35,6 @@ replyOf x = numberOf x + 16 * placeOf x
 -- the reply where an array is of another length
 abbrev pub wrongLength : ℕ
 wrongLength = 1
-
-abbrev pub isDone : Answer → Bool
-isDone x = eqb (numberOf x) 0
 
 abbrev pub hasLength : {X : Type 0} → List X → ℕ → Bool
 hasLength xs n = eqb (length xs) n

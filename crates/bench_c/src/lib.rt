@@ -91,6 +91,9 @@ pub extern "C" fn bench_density(height_m: f32) -> f32
     air::density(height_m)
 }
 
+// The reply where an array is of another length.
+const WRONG_LENGTH: u64 = 1;
+
 // A reply as one number: the answer's in the low four bits, its place above them.
 fn reply(answer: Answer) -> u64
     ensures { λ r. ⌜ r ≡ Library.replyOf answer ⌝ }
@@ -116,7 +119,7 @@ pub extern "C" fn bench_prepare(block: &[u8], airframe: &mut [f32]) -> u64
 {
     let lent = airframe.len();
     if lent != arrays::AIRFRAME_NUMBERS {
-        return 1;
+        return WRONG_LENGTH;
     }
     let read = airframe_block::read_airframe(block);
     let answer = read.answer;
@@ -133,7 +136,7 @@ pub extern "C" fn bench_read_state(block: &[u8], state: &mut [f32]) -> u64
 {
     let lent = state.len();
     if lent != arrays::STATE_NUMBERS {
-        return 1;
+        return WRONG_LENGTH;
     }
     let read = state_block::read_state(block);
     let answer = read.answer;
@@ -148,7 +151,7 @@ pub extern "C" fn bench_write_state(state: &[f32], block: &mut [u8]) -> u64
         (r ≡ o .reply) × (now (block .exit) ≡ o .block)) ⌝ }
 {
     if state.len() != arrays::STATE_NUMBERS {
-        return 1;
+        return WRONG_LENGTH;
     }
     let answer = state_block::write_state(block, arrays::flight_in(state));
     reply(answer)
@@ -162,7 +165,7 @@ pub extern "C" fn bench_read_tick(block: &[u8], tick: &mut [f32]) -> u64
 {
     let lent = tick.len();
     if lent != arrays::TICK_NUMBERS {
-        return 1;
+        return WRONG_LENGTH;
     }
     let read = state_block::read_tick_block(block);
     let answer = read.answer;
@@ -177,7 +180,7 @@ pub extern "C" fn bench_write_tick(tick: &[f32], block: &mut [u8]) -> u64
         (r ≡ o .reply) × (now (block .exit) ≡ o .block)) ⌝ }
 {
     if tick.len() != arrays::TICK_NUMBERS {
-        return 1;
+        return WRONG_LENGTH;
     }
     let answer = state_block::write_tick(block, arrays::tick_in(tick));
     reply(answer)
@@ -201,7 +204,7 @@ fn ticked_by(read: AirframeRead, f: Flight, t: Tick) -> Ticked
     ensures { λ r. ⌜ r ≡ Library.tickedBy read f t ⌝ }
 {
     let answer = read.answer;
-    if answer.number() == 0 {
+    if answer.is_done() {
         return lent_tick::tick_lent(read.airframe, f, t);
     }
     wing::refused(answer, f)
@@ -240,7 +243,7 @@ fn put_kept(state: &mut [f32], done: Ticked)
 {
     let report = done.report;
     let answer = report.answer;
-    if answer.number() == 0 {
+    if answer.is_done() {
         arrays::put_flight(state, done.flight);
     }
 }
@@ -275,7 +278,7 @@ pub extern "C" fn bench_tick(
         let done = ticked_by(airframe_block::read_airframe(airframe), f, t);
         return handed_back(done, state, report);
     }
-    1
+    WRONG_LENGTH
 }
 
 // The same with the airframe prepared: its array of numbers, tested at each tick like any other.
@@ -296,9 +299,9 @@ pub extern "C" fn bench_tick_prepared(
             let done = ticked_prepared(airframe, f, t);
             return handed_back(done, state, report);
         }
-        return 1;
+        return WRONG_LENGTH;
     }
-    1
+    WRONG_LENGTH
 }
 
 fn ended(answer: Answer, flight: Flight) -> Ran
@@ -317,7 +320,7 @@ fn ran_by(read: AirframeRead, f: Flight, trace: &[u8]) -> Ran
 {
     if run::is_whole(trace) {
         let answer = read.answer;
-        if answer.number() == 0 {
+        if answer.is_done() {
             return run::run(read.airframe, f, trace);
         }
         return ended(answer, f);
@@ -341,7 +344,7 @@ fn pair_by(read: AirframeRead, f: Flight, trace: &[u8]) -> Pair
 {
     if run::is_whole(trace) {
         let answer = read.answer;
-        if answer.number() == 0 {
+        if answer.is_done() {
             return run::mirrored_pair(read.airframe, f, trace);
         }
         return ended_pair(answer, f);
@@ -355,7 +358,7 @@ fn put_end(state: &mut [f32], done: Ran)
     ensures { λ _. ⌜ now (state .exit) ≡ Library.stateAfterRun (now (state .entry)) done ⌝ }
 {
     let answer = done.answer;
-    if answer.number() == 0 {
+    if answer.is_done() {
         arrays::put_flight(state, done.flight);
     }
 }
@@ -381,7 +384,7 @@ pub extern "C" fn bench_run(
         return reply(answer);
     }
     *accepted = 0;
-    1
+    WRONG_LENGTH
 }
 
 // Whether both arrays of a pair hold a state.
@@ -426,5 +429,5 @@ pub extern "C" fn bench_mirrored_pair(
     }
     *accepted = 0;
     *accepted_reflected = 0;
-    1
+    WRONG_LENGTH
 }

@@ -13,7 +13,7 @@ pub fn factor(h: f32, time_constant_s: f32, powers: &[f32; POWER_COUNT]) -> f32
 }
 
 // From `value` the part `alpha` of the way to `target`.
-pub fn approach(value: f32, target: f32, alpha: f32) -> f32
+fn approach(value: f32, target: f32, alpha: f32) -> f32
     ensures { λ r. ⌜ r ≡ Lag.approachOf value target alpha ⌝ }
 {
     value + (target - value) * alpha

@@ -85,7 +85,7 @@ pub fn mixed_from(rows: &[MixRow], start: Mix) -> Mix
 }
 
 // The same by value: the first `count` rows of an array are lent.
-pub fn mixed_lent(list: [MixRow; MOST_ROWS], count: usize, start: Mix) -> Mix
+fn mixed_lent(list: [MixRow; MOST_ROWS], count: usize, start: Mix) -> Mix
     requires { ⌜ count ≤ mostRows ⌝ }
     ensures { λ r. ⌜ r ≡ mixFrom start (take count list) ⌝ }
 {

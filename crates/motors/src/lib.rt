@@ -259,7 +259,7 @@ pub fn spun(used: bool, running: f32, command: f32, factor: f32) -> f32
 }
 
 // share_k of module 2, the running value to the power of the exponent (02, 4); the exponent 2 is a square.
-pub fn thrust_fraction(running: f32, thrust_exponent: f32, powers: &[f32; POWER_COUNT]) -> f32
+fn thrust_fraction(running: f32, thrust_exponent: f32, powers: &[f32; POWER_COUNT]) -> f32
     requires { ⌜ now powers ≡ powersOfTwo ⌝ }
     ensures { λ r. ⌜ r ≡ Motor.thrustFraction running «thrust_exponent» ⌝ }
 {

@@ -19,7 +19,6 @@ use Rattle.flight.specs.declared.Flight.{Flight}
 use Rattle.flight.specs.declared.Tick.{Tick}
 use Rattle.float.proofs.Sizes.{twoTo}
 use Rattle.float.specs.Interval.{inside}
-use Rattle.float.specs.Notation.{}
 use Rattle.lag.specs.Lag.{stepLeast, stepMost}
 use Rattle.vector.proofs.Range.{VecSized, inverse-rotate-sized, norm-sized, sub-sized, vec-within, within-sized}
 use Rattle.vector.specs.declared.Vec3.{Vec3}

@@ -1,6 +1,6 @@
 -- `bench_c::pair_by` meets its contract. Assumes nothing.
 use mathlib.Core.Path.{_∙_, sym}
-use borrow.Author.Tests.{eq-eqb, ne-eqb}
+use borrow.Author.Tests.{eqb-false}
 use native.Mathlib.Nat.{suc-ne-zero}
 use Rattle.bench_c.proofs.Pair.{ended-mirror, ended-number}
 use Rattle.bench_c.specs.Library.{ranBy, reflectedBy}
@@ -11,8 +11,8 @@ use Rattle.bench_c.proofs.pair_by.Tie as tie
 is-whole-requires : tie.Need-is-whole-requires
 is-whole-requires c κs = search needs
 
-number-requires : tie.Need-number-requires
-number-requires c κs = search needs
+is-done-requires : tie.Need-is-done-requires
+is-done-requires c κs = search needs
 
 mirrored-pair-requires : tie.Need-mirrored-pair-requires
 mirrored-pair-requires c κs = search needs
@@ -21,7 +21,7 @@ returns : tie.Need-returns
 unfolding ranBy reflectedBy
 returns c =
     let k = c .before .before .before in
-    let d = eq-eqb _ _ (sym (c .before .before .number .ensures) ∙ c .before .if2 .taken) in
+    let d = sym (c .before .before .is-done .ensures) ∙ c .before .if2 .taken in
     let w = sym (k .before .is-whole .ensures) ∙ k .if1 .taken in
     let p = c .mirrored-pair .ensures in
     record { first = p .first ∙ simp (d, w); second = p .second ∙ simp (d, w); ends = p .ends; theorem = λ z. p .demand3 }
@@ -33,10 +33,10 @@ returns-2 : tie.Need-returns-2
 unfolding ranBy reflectedBy
 returns-2 c =
     let k = c .before .before .before in
-    let d = ne-eqb _ _ (λ z. c .before .if2 .left (c .before .before .number .ensures ∙ z)) in
+    let d = sym (c .before .before .is-done .ensures) ∙ c .before .if2 .left in
     let w = sym (k .before .is-whole .ensures) ∙ k .if1 .taken in
     let p = c .ended-pair .ensures in
-    record { first = p .0 ∙ simp (d, w); second = p .1 ∙ simp (d, w); ends = ended-mirror _ _ _ (p .0) (p .1); theorem = λ z. absurd (c .before .if2 .left (c .before .before .number .ensures ∙ ended-number _ _ _ (p .0) z)) }
+    record { first = p .0 ∙ simp (d, w); second = p .1 ∙ simp (d, w); ends = ended-mirror _ _ _ (p .0) (p .1); theorem = λ z. absurd (eqb-false _ _ d (ended-number _ _ _ (p .0) z)) }
 
 ended-pair-requires-2 : tie.Need-ended-pair-requires-2
 ended-pair-requires-2 c κs = search needs
@@ -53,7 +53,7 @@ pair-by-spec =
     tie.close
     (tie.spec
     is-whole-requires
-    number-requires
+    is-done-requires
     mirrored-pair-requires
     returns
     ended-pair-requires

@@ -1,13 +1,12 @@
 -- `bench_c::put_end` meets its contract. Assumes nothing.
 use mathlib.Core.Path.{_∙_, sym}
-use borrow.Author.Tests.{eq-eqb, ne-eqb}
 use Rattle.bench_c.specs.Library.{stateAfterRun}
 use borrow.Author.Needs.{needs}
 use Rattle.bench_c.proofs.put_end.Statement.{statement}
 use Rattle.bench_c.proofs.put_end.Tie as tie
 
-number-requires : tie.Need-number-requires
-number-requires c κs = search needs
+is-done-requires : tie.Need-is-done-requires
+is-done-requires c κs = search needs
 
 put-flight-requires : tie.Need-put-flight-requires
 put-flight-requires c κs = search needs
@@ -17,12 +16,12 @@ same-length c = search needs
 
 returns : tie.Need-returns
 unfolding stateAfterRun
-returns c = simp (c .before .before .put-flight .ensures, eq-eqb _ _ (sym (c .before .before .before .before .before .number .ensures) ∙ c .before .before .before .before .if1 .taken))
+returns c = simp (c .before .before .put-flight .ensures, sym (c .before .before .before .before .before .is-done .ensures) ∙ c .before .before .before .before .if1 .taken)
 
 returns-2 : tie.Need-returns-2
 unfolding stateAfterRun
-returns-2 c = simp (ne-eqb _ _ (λ e. c .if1 .left (c .before .number .ensures ∙ e)))
+returns-2 c = simp (sym (c .before .is-done .ensures) ∙ c .if1 .left)
 
 pub put-end-spec : {M : Type 1} → statement M
 put-end-spec =
-    tie.close (tie.spec number-requires put-flight-requires same-length returns returns-2)
+    tie.close (tie.spec is-done-requires put-flight-requires same-length returns returns-2)

@@ -1,6 +1,5 @@
 -- `bench_c::ran_by` meets its contract. Assumes nothing.
 use mathlib.Core.Path.{_∙_, sym}
-use borrow.Author.Tests.{eq-eqb, ne-eqb}
 use Rattle.bench_c.specs.Library.{ranBy}
 use borrow.Author.Needs.{needs}
 use Rattle.bench_c.proofs.ran_by.Statement.{statement}
@@ -9,8 +8,8 @@ use Rattle.bench_c.proofs.ran_by.Tie as tie
 is-whole-requires : tie.Need-is-whole-requires
 is-whole-requires c κs = search needs
 
-number-requires : tie.Need-number-requires
-number-requires c κs = search needs
+is-done-requires : tie.Need-is-done-requires
+is-done-requires c κs = search needs
 
 run-requires : tie.Need-run-requires
 run-requires c κs = search needs
@@ -19,7 +18,7 @@ returns : tie.Need-returns
 unfolding ranBy
 returns c =
     let k = c .before .before .before in
-    simp (c .run .ensures, eq-eqb _ _ (sym (c .before .before .number .ensures) ∙ c .before .if2 .taken), sym (k .before .is-whole .ensures) ∙ k .if1 .taken)
+    simp (c .run .ensures, sym (c .before .before .is-done .ensures) ∙ c .before .if2 .taken, sym (k .before .is-whole .ensures) ∙ k .if1 .taken)
 
 ended-requires : tie.Need-ended-requires
 ended-requires c κs = search needs
@@ -28,7 +27,7 @@ returns-2 : tie.Need-returns-2
 unfolding ranBy
 returns-2 c =
     let k = c .before .before .before in
-    simp (c .ended .ensures, ne-eqb _ _ (λ e. c .before .if2 .left (c .before .before .number .ensures ∙ e)), sym (k .before .is-whole .ensures) ∙ k .if1 .taken)
+    simp (c .ended .ensures, sym (c .before .before .is-done .ensures) ∙ c .before .if2 .left, sym (k .before .is-whole .ensures) ∙ k .if1 .taken)
 
 ended-requires-2 : tie.Need-ended-requires-2
 ended-requires-2 c κs = search needs
@@ -42,7 +41,7 @@ ran-by-spec =
     tie.close
     (tie.spec
     is-whole-requires
-    number-requires
+    is-done-requires
     run-requires
     returns
     ended-requires

@@ -1,28 +1,27 @@
 -- `bench_c::ticked_by` meets its contract. Assumes nothing.
 use mathlib.Core.Path.{_∙_, sym}
-use borrow.Author.Tests.{eq-eqb, ne-eqb}
 use Rattle.bench_c.specs.Library.{tickedBy}
 use borrow.Author.Needs.{needs}
 use Rattle.bench_c.proofs.ticked_by.Statement.{statement}
 use Rattle.bench_c.proofs.ticked_by.Tie as tie
 
-number-requires : tie.Need-number-requires
-number-requires c κs = search needs
+is-done-requires : tie.Need-is-done-requires
+is-done-requires c κs = search needs
 
 tick-lent-requires : tie.Need-tick-lent-requires
 tick-lent-requires c κs = search needs
 
 returns : tie.Need-returns
 unfolding tickedBy
-returns c = simp (c .tick-lent .ensures, eq-eqb _ _ (sym (c .before .before .number .ensures) ∙ c .before .if1 .taken))
+returns c = simp (c .tick-lent .ensures, sym (c .before .before .is-done .ensures) ∙ c .before .if1 .taken)
 
 refused-requires : tie.Need-refused-requires
 refused-requires c κs = search needs
 
 returns-2 : tie.Need-returns-2
 unfolding tickedBy
-returns-2 c = simp (c .refused .ensures, ne-eqb _ _ (λ e. c .before .if1 .left (c .before .before .number .ensures ∙ e)))
+returns-2 c = simp (c .refused .ensures, sym (c .before .before .is-done .ensures) ∙ c .before .if1 .left)
 
 pub ticked-by-spec : {M : Type 1} → statement M
 ticked-by-spec =
-    tie.close (tie.spec number-requires tick-lent-requires returns refused-requires returns-2)
+    tie.close (tie.spec is-done-requires tick-lent-requires returns refused-requires returns-2)
