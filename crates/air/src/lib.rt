@@ -73,7 +73,7 @@ const TABLE: [f32; ROW_COUNT] = [
     0.7361, // 5000 m
 ];
 
-// The table, to be made once and lent to each call: it is laid out anew each time it is named.
+// The table. Naming a const array copies it: build once, pass by reference.
 pub fn densities() -> [f32; ROW_COUNT]
     ensures { λ r. ⌜ r ≡ Density.densities ⌝ }
 {

@@ -221,7 +221,7 @@ fn limits_for(falloff: ThrustFalloff) -> [Limits; NUMBERS]
     }
 }
 
-// Whether `count` numbers from the index `first` on lie within their limits: all are looked at, with no way out between them.
+// Whether `count` numbers from the index `first` on lie within their limits: no early exit, so that the tests overlap.
 fn numbers_inside(
     numbers: &[f32; NUMBERS],
     limits: [Limits; NUMBERS],

@@ -215,7 +215,7 @@ fn vec_outside(v: Vec3, limit: f32) -> u32
     1
 }
 
-// Whether each slot's value lies within low..high: all are looked at, with no way out between them.
+// Whether each slot's value lies within low..high: no early exit, so that the tests overlap.
 fn slots_inside(values: [f32; 8], low: f32, high: f32) -> bool
     ensures { λ r. ⌜ r ≡ allPass (Envelope.slotInside low high values) 8 ⌝ }
 {

@@ -265,7 +265,7 @@ const TABLE: [f32; POWER_COUNT] = [
     1.7014118e38, // 2^127
 ];
 
-// The table, made anew at each call: whoever takes several exponentials makes it once and lends it.
+// The table. Naming a const array copies it: build once, pass by reference.
 pub fn powers_of_two() -> [f32; POWER_COUNT]
     ensures { λ r. ⌜ r ≡ Powers.powersOfTwo ⌝ }
 {

@@ -48,7 +48,7 @@ pub struct Ticked {
     pub flight: Flight,
 }
 
-// The lag factors of a step, which stay as they are while the step keeps its bits.
+// The lag factors of a step, with the bits of that step: they are reused while the step has the same bits.
 pub struct LagFactors {
     pub step_bits: u32,
     pub motor: f32,
@@ -175,7 +175,7 @@ fn lift_factor(constants: LagConstants, step_s: f32, powers: &[f32; POWER_COUNT]
     0.0
 }
 
-// The lag factors of a step, `held` being those of the last one: a step with the same bits has the same.
+// The lag factors of a step; `held`, those of the last step, are reused while the step has the same bits.
 pub fn begin_after(
     a: Airframe,
     held: LagFactors,
