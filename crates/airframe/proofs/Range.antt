@@ -1,10 +1,11 @@
 -- What acceptance tells of a number: it lies in its limits. Said of the lag constants, 34, the servos', 39, the motors', and 56, the lift rotors', and of the exponents of thrust, 36 and 53. Assumes nothing.
 use Prim.Native.Nat.{_+_, _-_, _<_, ℕ}
-use lib.Ieee.{Float, nan, round}
+use lib.Ieee.{Float, fin, nan, round}
+use lib.IntN.{pos}
 use lib.Seq.{getD-set-other}
-use mathlib.Core.Bool.{Bool, cond, true}
+use mathlib.Core.Bool.{Bool, cond, false, true}
 use mathlib.Core.List.{List}
-use mathlib.Core.Path.{_∙_, _≡_, ap, refl, sym}
+use mathlib.Core.Path.{_∙_, _≡_, ap, refl, subst, sym}
 use native.Mathlib.Omega.{arith}
 use Rattle.fixed_wing.specs.declared.ThrustFalloff.{ThrustFalloff}
 use Rattle.fixed_wing.specs.declared.ThrustFalloff.the-variants.{Linear, PitchSpeed}
@@ -25,6 +26,19 @@ segment-pass : (limits : List Limits) (numbers : List Float) (s : Segment) → s
 unfolding segmentOutside
 segment-pass limits numbers s p e =
     all-pass _ (s .count) (after-none (s .place - 1) _ (sym (ap (λ (t : Bool). cond t (after (s .place - 1) (firstFail (insideFrom limits numbers (s .first)) 0 (s .count))) 0) p) ∙ e))
+
+-- the exponents' limits in digits, computed apart from what is said of them: where a limit is another, this is refused at once
+exponent-limits : limitsAt limitsTable 35 ≡ range (fin false 1 (pos 0)) (fin false 3 (pos 0))
+unfolding limitsTable round
+exponent-limits = refl
+
+lift-exponent-limits : limitsAt limitsTable 49 ≡ range (fin false 1 (pos 0)) (fin false 3 (pos 0))
+unfolding limitsTable round
+lift-exponent-limits = refl
+
+one-to-three : range (fin false 1 (pos 0)) (fin false 3 (pos 0)) ≡ range one (rounded 3 1)
+unfolding round
+one-to-three = refl
 
 module _ (a : Airframe) (e : refusedPlace a ≡ 0) where
   abbrev limits : List Limits
@@ -56,16 +70,20 @@ module _ (a : Airframe) (e : refusedPlace a ≡ 0) where
   servo-constant-in = number-in 0 33 (λ (h : 33 ≡ 36). omega arith) (base-pass 33 (omega arith))
 
   pub exponent-in : Within one (rounded 3 1) (a .motors .layout .«thrust_exponent»)
-  unfolding limitsTable numbersOf baseNumbers coefficientNumbers round
-  exponent-in = number-in 0 35 (λ (h : 35 ≡ 36). omega arith) (base-pass 35 (omega arith))
+  unfolding numbersOf baseNumbers coefficientNumbers
+  exponent-in =
+      subst (λ (b : Limits). Within (b .0) (b .1) (a .motors .layout .«thrust_exponent»)) (exponent-limits ∙ one-to-three)
+      (number-in 0 35 (λ (h : 35 ≡ 36). omega arith) (base-pass 35 (omega arith)))
 
   pub motor-constant-in : Within (rounded 1 1000) (rounded 10 1) (a .motors .«time_constant_s»)
   unfolding limitsTable numbersOf baseNumbers coefficientNumbers
   motor-constant-in = number-in 0 38 (λ (h : 38 ≡ 36). omega arith) (base-pass 38 (omega arith))
 
   pub lift-exponent-in : a .«lift_present» ≡ true → Within one (rounded 3 1) (a .lift .motors .layout .«thrust_exponent»)
-  unfolding limitsTable numbersOf baseNumbers coefficientNumbers washNumbers liftNumbers round
-  lift-exponent-in p = number-in liftFirst 1 (λ (h : 49 ≡ 36). omega arith) (lift-pass p 1 (omega arith))
+  unfolding numbersOf baseNumbers coefficientNumbers washNumbers liftNumbers
+  lift-exponent-in p =
+      subst (λ (b : Limits). Within (b .0) (b .1) (a .lift .motors .layout .«thrust_exponent»)) (lift-exponent-limits ∙ one-to-three)
+      (number-in liftFirst 1 (λ (h : 49 ≡ 36). omega arith) (lift-pass p 1 (omega arith)))
 
   pub lift-constant-in : a .«lift_present» ≡ true → Within (rounded 1 1000) (rounded 10 1) (a .lift .motors .«time_constant_s»)
   unfolding limitsTable numbersOf baseNumbers coefficientNumbers washNumbers liftNumbers
