@@ -29,7 +29,7 @@ use Rattle.mixers.specs.declared.Slot.{Slot}
 use Rattle.mixers.specs.declared.Slot.the-variants.{Lift, Motor, Servo}
 use Rattle.motors.specs.Motor.{groupOf, liftGroupOf}
 use Rattle.motors.specs.declared.MotorLayout.{MotorLayout}
-use Rattle.state_block.specs.Layout.{floatAt, numberBytes}
+use Rattle.block_parts.specs.Parts.{floatAt, numberBytes}
 use Rattle.surfaces.specs.Surface.{surfacesOf}
 use Rattle.tailsitter_model.specs.declared.PropWash.{PropWash}
 use Rattle.vector.specs.Vector.{vec}

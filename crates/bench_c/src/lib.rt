@@ -164,7 +164,7 @@ pub extern "C" fn bench_read_tick(block: &[u8], tick: &mut [f32]) -> u64
     if lent != arrays::TICK_NUMBERS {
         return 1;
     }
-    let read = state_block::read_tick_block(block);
+    let read = trace::read_tick_block(block);
     let answer = read.answer;
     arrays::put_tick(tick, read.tick);
     reply(answer)
@@ -179,7 +179,7 @@ pub extern "C" fn bench_write_tick(tick: &[f32], block: &mut [u8]) -> u64
     if tick.len() != arrays::TICK_NUMBERS {
         return 1;
     }
-    let answer = state_block::write_tick(block, arrays::tick_in(tick));
+    let answer = trace::write_tick(block, arrays::tick_in(tick));
     reply(answer)
 }
 
@@ -315,7 +315,7 @@ fn ended(answer: Answer, flight: Flight) -> Ran
 fn ran_by(read: AirframeRead, f: Flight, trace: &[u8]) -> Ran
     ensures { λ r. ⌜ r ≡ Library.ranBy read f (now (trace .entry)) ⌝ }
 {
-    if run::is_whole(trace) {
+    if trace::is_whole(trace) {
         let answer = read.answer;
         if answer.number() == 0 {
             return run::run(read.airframe, f, trace);
@@ -339,7 +339,7 @@ fn ended_pair(answer: Answer, f: Flight) -> Pair
 fn pair_by(read: AirframeRead, f: Flight, trace: &[u8]) -> Pair
     ensures { λ r. ⌜ Contracts.PairBy read f (now (trace .entry)) r ⌝ }
 {
-    if run::is_whole(trace) {
+    if trace::is_whole(trace) {
         let answer = read.answer;
         if answer.number() == 0 {
             return run::mirrored_pair(read.airframe, f, trace);
