@@ -10,7 +10,7 @@ use native.Mathlib.Omega.{arith}
 use Rattle.airframe.specs.Numbers.{baseCount, baseSegment, liftCount, liftSegment, numbersCount, washCount, washSegment}
 use Rattle.airframe.specs.declared.numbers.Segment.{Segment}
 use Rattle.mixers.specs.declared.MixRow.{MixRow}
-use Rattle.state_block.specs.Layout.{floatAt, numberBytes}
+use Rattle.block_parts.specs.Parts.{floatAt, numberBytes}
 use Rattle.airframe_block.specs.Block.{bytesOf, headerBytes, mostBytes, putNumbers, putRows, rowBytes, rowFrom, rowsAt, segmentBytes, segmentsEnd, segmentsOf}
 use Rattle.airframe_block.specs.declared.Header.{Header}
 

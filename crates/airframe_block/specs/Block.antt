@@ -24,7 +24,7 @@ use Rattle.mixers.specs.declared.Rows.{Rows}
 use Rattle.mixers.specs.declared.Slot.{Slot}
 use Rattle.mixers.specs.declared.Slot.the-variants.{Lift, Motor, Servo}
 use Rattle.motors.specs.Motor.{groupOf, liftGroupOf}
-use Rattle.state_block.specs.Layout.{floatAt, numberBytes}
+use Rattle.block_parts.specs.Parts.{floatAt, numberBytes}
 use Rattle.surfaces.specs.Surface.{surfacesOf}
 use Rattle.airframe_block.specs.declared.AirframeRead.{AirframeRead}
 use Rattle.airframe_block.specs.declared.Announced.{Announced}

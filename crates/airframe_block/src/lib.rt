@@ -3,7 +3,7 @@ ghost use mathlib.Core.Path.{_≡_};
 ghost use Prim.Native.Nat.{_+_, _*_, _≤_};
 ghost use Rattle.airframe.specs.Numbers as Numbers;
 ghost use Rattle.mixers.specs.Rows.{mostRows};
-ghost use Rattle.state_block.specs.Layout.{numberBytes};
+ghost use Rattle.block_parts.specs.Parts.{numberBytes};
 ghost use Rattle.airframe_block.specs.Block as Block;
 use airframe::Airframe;
 use airframe::LIFT_TIME_CONSTANT;
@@ -28,7 +28,7 @@ pub const HEADER_BYTES: usize = 2;
 const ROW_BYTES: usize = 13;
 
 // The longest block that a header can announce: its five bits of the row count go up to 31.
-pub const MOST_BYTES: usize = HEADER_BYTES + state_block::NUMBER_BYTES * NUMBERS + ROW_BYTES * 31;
+pub const MOST_BYTES: usize = HEADER_BYTES + block_parts::NUMBER_BYTES * NUMBERS + ROW_BYTES * 31;
 
 // What a block's first two bytes announce: how many bytes it has, or why it is refused whatever follows.
 pub enum Announced {
@@ -75,7 +75,7 @@ fn segment_bytes(x: Segment) -> usize
     ensures { λ r. ⌜ r ≡ Block.segmentBytes x ⌝ ∗ ⌜ r ≤ numberBytes * x .count ⌝ }
 {
     if x.present {
-        return state_block::NUMBER_BYTES * x.count;
+        return block_parts::NUMBER_BYTES * x.count;
     }
     0
 }
@@ -154,7 +154,7 @@ fn read_present(
     let mut out = xs;
     let mut k = 0usize;
     while k < count {
-        out[first + k] = float::read(s, at + state_block::NUMBER_BYTES * k);
+        out[first + k] = float::read(s, at + block_parts::NUMBER_BYTES * k);
         k += 1;
     }
     out

@@ -3,13 +3,14 @@
 use Prim.Native.Nat.{_+_, _/_, ℕ}
 use lib.Ieee.{Float}
 use mathlib.Core.List.{List, [], _∷_}
+use Rattle.block_parts.specs.Parts.{numberBytes}
 use Rattle.body.specs.declared.Body.{Body}
 use Rattle.flight.specs.State.{bodyOf, flightOf}
 use Rattle.flight.specs.declared.Flight.{Flight}
 use Rattle.flight.specs.declared.Tick.{Tick}
 use Rattle.mixers.specs.Slots.{at, slots}
-use Rattle.state_block.specs.Layout.{attitudeAt, liftAt, motorsAt, numberBytes, ratesAt, scalesAt, servosAt, stateBytes, velocityAt}
-use Rattle.state_block.specs.Layout.{motorCommandsAt, servoCommandsAt, tickBytes, windAt}
+use Rattle.state_block.specs.Layout.{attitudeAt, liftAt, motorsAt, ratesAt, scalesAt, servosAt, stateBytes, velocityAt}
+use Rattle.trace.specs.Tick.{motorCommandsAt, servoCommandsAt, tickBytes, windAt}
 use Rattle.vector.specs.Rotation.{quat}
 use Rattle.vector.specs.Vector.{vec}
 use Rattle.vector.specs.declared.Quaternion.{Quaternion}

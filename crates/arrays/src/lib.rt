@@ -22,32 +22,32 @@ use vector::Quaternion;
 use vector::Vec3;
 
 // How many numbers a state, a tick and a report have.
-pub const STATE_NUMBERS: usize = state_block::STATE_BYTES / state_block::NUMBER_BYTES;
+pub const STATE_NUMBERS: usize = state_block::STATE_BYTES / block_parts::NUMBER_BYTES;
 
-pub const TICK_NUMBERS: usize = state_block::TICK_BYTES / state_block::NUMBER_BYTES;
+pub const TICK_NUMBERS: usize = trace::TICK_BYTES / block_parts::NUMBER_BYTES;
 
 pub const REPORT_NUMBERS: usize = 3;
 
 // At which number of its array each part of a state and of a tick begins; a state's position and a tick's step begin it.
-const VELOCITY_AT: usize = state_block::VELOCITY_AT / state_block::NUMBER_BYTES;
+const VELOCITY_AT: usize = state_block::VELOCITY_AT / block_parts::NUMBER_BYTES;
 
-const ATTITUDE_AT: usize = state_block::ATTITUDE_AT / state_block::NUMBER_BYTES;
+const ATTITUDE_AT: usize = state_block::ATTITUDE_AT / block_parts::NUMBER_BYTES;
 
-const RATES_AT: usize = state_block::RATES_AT / state_block::NUMBER_BYTES;
+const RATES_AT: usize = state_block::RATES_AT / block_parts::NUMBER_BYTES;
 
-const MOTORS_AT: usize = state_block::MOTORS_AT / state_block::NUMBER_BYTES;
+const MOTORS_AT: usize = state_block::MOTORS_AT / block_parts::NUMBER_BYTES;
 
-const SERVOS_AT: usize = state_block::SERVOS_AT / state_block::NUMBER_BYTES;
+const SERVOS_AT: usize = state_block::SERVOS_AT / block_parts::NUMBER_BYTES;
 
-const SCALES_AT: usize = state_block::SCALES_AT / state_block::NUMBER_BYTES;
+const SCALES_AT: usize = state_block::SCALES_AT / block_parts::NUMBER_BYTES;
 
-const LIFT_AT: usize = state_block::LIFT_AT / state_block::NUMBER_BYTES;
+const LIFT_AT: usize = state_block::LIFT_AT / block_parts::NUMBER_BYTES;
 
-const WIND_AT: usize = state_block::WIND_AT / state_block::NUMBER_BYTES;
+const WIND_AT: usize = trace::WIND_AT / block_parts::NUMBER_BYTES;
 
-const MOTOR_COMMANDS_AT: usize = state_block::MOTOR_COMMANDS_AT / state_block::NUMBER_BYTES;
+const MOTOR_COMMANDS_AT: usize = trace::MOTOR_COMMANDS_AT / block_parts::NUMBER_BYTES;
 
-const SERVO_COMMANDS_AT: usize = state_block::SERVO_COMMANDS_AT / state_block::NUMBER_BYTES;
+const SERVO_COMMANDS_AT: usize = trace::SERVO_COMMANDS_AT / block_parts::NUMBER_BYTES;
 
 // Of an airframe: its numbers by place up to 48, and then at which number the falloff's kind, the wash's flag, the motors' marks,
 // their torques and the surfaces' weights begin. What a later airframe has besides comes after them: the lift rotors' numbers by

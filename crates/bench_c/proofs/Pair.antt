@@ -23,9 +23,10 @@ use Rattle.flight.specs.Reflection.{FlightRel, reflectFlight}
 use Rattle.flight.specs.declared.Flight.{Flight}
 use Rattle.mixers.specs.Slots.{at, slots}
 use Rattle.run.specs.Mirrored.{Demand3, RanRel}
-use Rattle.run.specs.Run.{ended, isWhole, ranOf}
+use Rattle.run.specs.Run.{ended, ranOf}
 use Rattle.run.specs.declared.Pair.{Pair}
 use Rattle.run.specs.declared.Ran.{Ran}
+use Rattle.trace.specs.Trace.{isWhole}
 use Rattle.bench_c.proofs.Chain.{block-flown, prepared-flown}
 use Rattle.bench_c.specs.Contracts.{PairBy}
 use Rattle.bench_c.specs.Library.{PairMirrors, ranBy, replyOf, stateAfterRun}

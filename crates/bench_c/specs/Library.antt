@@ -17,13 +17,17 @@ use Rattle.answers.specs.declared.Answer.the-variants.{WrongLength}
 use Rattle.flight.specs.Reflection.{FlightRel, TickRel, reflectFlight}
 use Rattle.flight.specs.declared.Flight.{Flight}
 use Rattle.flight.specs.declared.Tick.{Tick}
+use Rattle.block_parts.specs.Parts.{writeAnswer}
 use Rattle.arrays.specs.Airframe.{airframeNumbers, airframeNumbersCount, airframeIn}
 use Rattle.arrays.specs.Flight.{flightNumbers, flightIn, stateNumbersCount, tickIn, tickNumbers, tickNumbersCount}
 use Rattle.run.specs.Calls.{Chain, Each}
 use Rattle.run.specs.Mirrored.{AcceptedAirframe, AcceptedState, Demand3, MirroredFlights}
-use Rattle.run.specs.Run.{Told, ended, isWhole, ranOf, reflectTrace}
+use Rattle.run.specs.Run.{Told, ended, ranOf}
 use Rattle.run.specs.declared.Ran.{Ran}
-use Rattle.state_block.specs.Layout.{readStateOf, readTickOf, stateBytes, tickBytes, writeAnswer, writtenState, writtenTick}
+use Rattle.state_block.specs.Layout.{readStateOf, stateBytes, writtenState}
+use Rattle.trace.specs.Reflection.{reflectTrace}
+use Rattle.trace.specs.Tick.{readTickOf, tickBytes, writtenTick}
+use Rattle.trace.specs.Trace.{isWhole}
 use Rattle.wing.specs.Tick.{refusedOf, tickOf}
 use Rattle.wing.specs.declared.Report.{Report}
 use Rattle.wing.specs.declared.Ticked.{Ticked}

@@ -167,7 +167,7 @@ pub extern "C" fn bench_read_tick(block: &[u8], tick: &mut [f32]) -> u64
     if lent != arrays::TICK_NUMBERS {
         return WRONG_LENGTH;
     }
-    let read = state_block::read_tick_block(block);
+    let read = trace::read_tick_block(block);
     let answer = read.answer;
     arrays::put_tick(tick, read.tick);
     reply(answer)
@@ -182,7 +182,7 @@ pub extern "C" fn bench_write_tick(tick: &[f32], block: &mut [u8]) -> u64
     if tick.len() != arrays::TICK_NUMBERS {
         return WRONG_LENGTH;
     }
-    let answer = state_block::write_tick(block, arrays::tick_in(tick));
+    let answer = trace::write_tick(block, arrays::tick_in(tick));
     reply(answer)
 }
 
@@ -318,7 +318,7 @@ fn ended(answer: Answer, flight: Flight) -> Ran
 fn ran_by(read: AirframeRead, f: Flight, trace: &[u8]) -> Ran
     ensures { λ r. ⌜ r ≡ Library.ranBy read f (now (trace .entry)) ⌝ }
 {
-    if run::is_whole(trace) {
+    if trace::is_whole(trace) {
         let answer = read.answer;
         if answer.is_done() {
             return run::run(read.airframe, f, trace);
@@ -342,7 +342,7 @@ fn ended_pair(answer: Answer, f: Flight) -> Pair
 fn pair_by(read: AirframeRead, f: Flight, trace: &[u8]) -> Pair
     ensures { λ r. ⌜ Contracts.PairBy read f (now (trace .entry)) r ⌝ }
 {
-    if run::is_whole(trace) {
+    if trace::is_whole(trace) {
         let answer = read.answer;
         if answer.is_done() {
             return run::mirrored_pair(read.airframe, f, trace);

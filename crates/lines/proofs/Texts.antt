@@ -12,7 +12,7 @@ use native.Mathlib.Omega.{arith}
 use Rattle.lines.specs.Glyph.{glyphOf}
 use Rattle.lines.specs.Text.{digitsOf, endText, byteText, placed, placesOf, refusalText}
 use Rattle.answers.specs.declared.Answer.the-variants.{WrongLength}
-use Rattle.state_block.specs.Layout.{tickBytes}
+use Rattle.trace.specs.Tick.{tickBytes}
 use borrow.Author.Tests.{eq-eqb, ne-eqb}
 
 pub placed-append : (vs ws l : List ℕ) (i : ℕ) → placed (placed l i vs) (i + length vs) ws ≡ placed l i (vs ++ ws)

@@ -1,10 +1,10 @@
 -- Ticks flown one after the other, and the text of their lines. Definitions only.
-use Prim.Native.Nat.{_%_, _*_, _+_, _-_, _/_, _^_, suc, zero, ℕ}
-use mathlib.Core.List.{List, [], _++_}
+use Prim.Native.Nat.{_%_, _+_, _^_, ℕ}
+use mathlib.Core.List.{List, [], _++_, foldl}
 use Rattle.airframe.specs.declared.Airframe.{Airframe}
 use Rattle.flight.specs.declared.Flight.{Flight}
 use Rattle.flight.specs.declared.Tick.{Tick}
-use Rattle.state_block.specs.Layout.{tickBytes, tickFrom}
+use Rattle.trace.specs.Trace.{ticksOf}
 use Rattle.wing.specs.Tick.{tickOf}
 use Rattle.lines.specs.Text.{lineText}
 use Rattle.lines.specs.declared.flown.Flown.{Flown}
@@ -35,11 +35,10 @@ legOn a p t = record {
   text = p .text ++ tickText a (p .flight) (oneMore (p .index)) t;
 }
 
--- the first n ticks of the bytes from `from` on
-unfoldable pub legOf : Airframe → Leg → List ℕ → ℕ → ℕ → Leg
-legOf a p s from zero = p
-legOf a p s from (suc n) = legOn a (legOf a p s from n) (tickFrom s (from + tickBytes * n))
+-- some ticks, one after the other
+unfoldable pub legOf : Airframe → Leg → List Tick → Leg
+legOf a p ts = foldl (legOn a) p ts
 
--- the whole ticks among the bytes from `from` to `to`, after those that p has flown
-abbrev pub legOver : Airframe → Flown → List ℕ → ℕ → ℕ → Leg
-legOver a p s from to = legOf a (legFrom (p .flight) (p .index)) s from ((to - from) / tickBytes)
+-- the ticks of a trace, after those that p has flown
+abbrev pub legOver : Airframe → Flown → List ℕ → Leg
+legOver a p s = legOf a (legFrom (p .flight) (p .index)) (ticksOf s)

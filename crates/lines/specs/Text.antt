@@ -13,7 +13,7 @@ use Rattle.flight.specs.State.{bodyOf}
 use Rattle.flight.specs.declared.Flight.{Flight}
 use Rattle.float.specs.Same.{num}
 use Rattle.lines.specs.Glyph.{glyphOf}
-use Rattle.state_block.specs.Layout.{tickBytes}
+use Rattle.trace.specs.Tick.{tickBytes}
 use Rattle.vector.specs.declared.Quaternion.{Quaternion}
 use Rattle.vector.specs.declared.Vec3.{Vec3}
 

@@ -1,6 +1,6 @@
 // Ticks flown one after the other, each with its line on the page.
 ghost use mathlib.Core.Path.{_≡_};
-ghost use Prim.Native.Nat.{_+_, _*_, _-_, _≤_};
+ghost use Prim.Native.Nat.{_+_, _*_, _≤_};
 ghost use lib.ListN.{length};
 ghost use Rattle.lines.specs.Leg.{legOver, oneMore, tickText};
 ghost use Rattle.lines.specs.Text.{placed};
@@ -44,28 +44,21 @@ fn fly_one(a: Airframe, p: Flown, t: Tick, out: &mut [u8; 65536]) -> Flown
     Flown { flight, index, at }
 }
 
-// Flies the whole ticks among the bytes from `from` to `to` of `ticks`: those of fly's input as it comes, or of a stored flight.
-// Their lines stand at the page's start: a tick has 80 bytes, its line at most 160, and one line more has room behind them.
-pub fn fly_ticks(
-    a: Airframe,
-    p: Flown,
-    ticks: &[u8],
-    from: usize,
-    to: usize,
-    out: &mut [u8; 65536],
-) -> Flown
-    requires { ⌜ from ≤ to ⌝ ∗ ⌜ to ≤ length (now ticks) ⌝ ∗ ⌜ 2 * (to - from) ≤ 65376 ⌝ }
-    ensures page { λ _. ⌜ now (out .exit) ≡ placed (now (out .entry)) 0 (legOver a p (now (ticks .entry)) from to .text) ⌝ }
-    ensures flight { λ r. ⌜ r .flight ≡ legOver a p (now (ticks .entry)) from to .flight ⌝ }
-    ensures index { λ r. ⌜ r .index ≡ legOver a p (now (ticks .entry)) from to .index ⌝ }
-    ensures end { λ r. ⌜ r .at ≡ length (legOver a p (now (ticks .entry)) from to .text) ⌝ ∗ ⌜ r .at ≤ 65376 ⌝ }
+// Flies the trace's whole ticks: those of fly's input as it comes, or of a stored flight. Their lines stand at the page's start: a
+// tick has 80 bytes, its line at most 160, and one line more has room behind them.
+pub fn fly_ticks(a: Airframe, p: Flown, trace: &[u8], out: &mut [u8; 65536]) -> Flown
+    requires { ⌜ 2 * length (now trace) ≤ 65376 ⌝ }
+    ensures page { λ _. ⌜ now (out .exit) ≡ placed (now (out .entry)) 0 (legOver a p (now (trace .entry)) .text) ⌝ }
+    ensures flight { λ r. ⌜ r .flight ≡ legOver a p (now (trace .entry)) .flight ⌝ }
+    ensures index { λ r. ⌜ r .index ≡ legOver a p (now (trace .entry)) .index ⌝ }
+    ensures end { λ r. ⌜ r .at ≡ length (legOver a p (now (trace .entry)) .text) ⌝ ∗ ⌜ r .at ≤ 65376 ⌝ }
 {
-    let count = (to - from) / state_block::TICK_BYTES;
+    let count = trace::tick_count(trace);
     let mut flown = p;
     flown.at = 0;
     let mut i = 0usize;
     while i < count {
-        let t = state_block::read_tick(ticks, from + state_block::TICK_BYTES * i);
+        let t = trace::tick_at(trace, i);
         flown = fly_one(a, flown, t, out);
         i += 1;
     }

@@ -1,9 +1,10 @@
 // What stands before the ticks of the input, the airframe and the state; and the ticks, a buffer at a time.
 ghost use mathlib.Core.Path.{_≡_};
 ghost use Prim.Native.Nat.{_*_, _≤_};
-ghost use lib.ListN.{take};
+ghost use lib.ListN.{length, take};
 ghost use Rattle.airframe_block.specs.Block.{announcedOf, headerBytes, mostBytes, readAirframeOf};
-ghost use Rattle.state_block.specs.Layout.{readFullOf, tickBytes};
+ghost use Rattle.state_block.specs.Layout.{readFullOf};
+ghost use Rattle.trace.specs.Tick.{tickBytes};
 ghost use Rattle.lines.specs.Opening.{FromBlock, FromBlocks, FromState, wantedBy};
 use crate::input;
 use crate::input::Filled;
@@ -133,11 +134,11 @@ pub fn open(program: &[u8], name: &[u8; 65536], input: Input) -> Opened
 }
 
 // How many bytes of ticks are read at a time: their lines, and those of their reflections, go on one page.
-pub const TICKS_BYTES: usize = 200 * state_block::TICK_BYTES;
+pub const TICKS_BYTES: usize = 200 * trace::TICK_BYTES;
 
 // Reads the next 200 ticks, or what is left.
 pub fn read_ticks(fd: i32, buf: &mut [u8; 65536]) -> Filled
-    ensures { λ r. ⌜ r .end ≤ 200 * tickBytes ⌝ }
+    ensures { λ r. ⌜ r .end ≤ 200 * tickBytes ⌝ ∗ ⌜ length (now (buf .exit)) ≡ 65536 ⌝ }
 {
     input::fill(fd, buf, 0, TICKS_BYTES)
 }

@@ -60,7 +60,7 @@ pub fn put_end(out: &mut [u8; 65536], at: usize, n: usize) -> usize
     ensures page { λ _. ⌜ now (out .exit) ≡ placed (now (out .entry)) at (endText n) ⌝ }
     ensures end { λ r. ⌜ r ≡ at + length (endText n) ⌝ ∗ ⌜ r ≤ at + 160 ⌝ }
 {
-    if n % state_block::TICK_BYTES == 0 {
+    if n % trace::TICK_BYTES == 0 {
         return at;
     }
     put_refusal(out, at, Answer::WrongLength)

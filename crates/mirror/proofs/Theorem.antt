@@ -1,11 +1,11 @@
 -- The program's verdict is the theorem's (run/specs/Mirrored.antt). Where the theorem's `Agree` holds of a tick in both flights,
 -- `mirroredTick` is true of it; where that is true, the numbers that it looks at are related as the theorem relates them; and so the
 -- program finds no tick that differs, whatever it flies. Assumes nothing.
-use Prim.Native.Nat.{_*_, _<_, suc, zero, ℕ}
+use Prim.Native.Nat.{_<_, ℕ}
 use borrow.Author.Tests.{eq-eqb, eqb-true}
 use lib.Ieee.{Float}
 use mathlib.Core.Bool.{Bool, false, true, true≢false}
-use mathlib.Core.List.{List}
+use mathlib.Core.List.{List, [], _∷_, foldl}
 use mathlib.Core.Path.{_∙_, _≡_, ap, refl, sym}
 use Rattle.airframe.proofs.Mirror.{reflect-airframe}
 use Rattle.airframe.specs.Reflection.{reflectAirframe}
@@ -26,7 +26,6 @@ use Rattle.ordered.specs.Ordered.{allPass}
 use Rattle.run.proofs.Mirror.{agree}
 use Rattle.run.specs.Mirrored.{Agree}
 use Rattle.run.specs.Run.{toldBy}
-use Rattle.state_block.specs.Layout.{tickBytes, tickFrom}
 use Rattle.vector.specs.Reflection.{QuatRel, VecRel, reflectAxis, reflectQuat, reflectVec}
 use Rattle.vector.specs.declared.Quaternion.{Quaternion}
 use Rattle.vector.specs.declared.Vec3.{Vec3}
@@ -37,7 +36,7 @@ use Rattle.wing.specs.declared.Report.{Report}
 use Rattle.wing.specs.declared.Ticked.{Ticked}
 use Rattle.mirror.proofs.Numbers.{OppositeFloat, SameFloat, is-opposite, is-same, opposite-holds, same-holds}
 use Rattle.mirror.specs.Compare.{both, mirroredReport, mirroredTick, sameAttitude, sameBody, sameFlight, sameSlot, sameVec}
-use Rattle.mirror.specs.Tracks.{Tracks, tracksAfter, tracksAtStart, tracksOn, tracksOver, unlikeOf}
+use Rattle.mirror.specs.Tracks.{Shown, Tracks, shownOn, shownOver, tracksAfter, tracksAtStart, tracksOn, unlikeOf}
 
 -- ---- two tests
 both-hold : {a b : Bool} → a ≡ true → b ≡ true → both a b ≡ true
@@ -171,10 +170,10 @@ mirroring-on a p t h =
     let r : TickedRel k l = tick-mirror (reflect-airframe a) (h .states) (reflect-tick t) in
     record { states = r .flight; none = rw (h .none, agree-mirrored k l (agree r)) }
 
-mirroring-over : (a : Airframe) (f : Flight) (s : List ℕ) (n : ℕ) → Mirroring (tracksOver a (tracksAtStart f) s n)
-unfolding tracksOver
-mirroring-over a f s zero = unfold tracksAtStart in record { states = reflect-flight f; none = refl }
-mirroring-over a f s (suc n) = mirroring-on a (tracksOver a (tracksAtStart f) s n) (tickFrom s (tickBytes * n)) (mirroring-over a f s n)
+mirroring-all : (a : Airframe) (p : Shown) (ts : List Tick) → Mirroring (p .tracks) → Mirroring (foldl (shownOn a) p ts .tracks)
+mirroring-all a p [] h = h
+mirroring-all a p (t ∷ ts) h = mirroring-all a (shownOn a p t) ts (unfold shownOn in mirroring-on a (p .tracks) t h)
 
-pub none-differs : (a : Airframe) (f : Flight) (s : List ℕ) (n : ℕ) → tracksOver a (tracksAtStart f) s n .differs ≡ 0
-none-differs a f s n = mirroring-over a f s n .none
+pub none-differs : (a : Airframe) (f : Flight) (ts : List Tick) → shownOver a (tracksAtStart f) ts .tracks .differs ≡ 0
+unfolding shownOver tracksAtStart
+none-differs a f ts = mirroring-all a _ ts (record { states = reflect-flight f; none = refl }) .none

@@ -1,8 +1,8 @@
 -- A flight and its reflection, tick by tick, and their lines. Definitions only.
-use Prim.Native.Nat.{_*_, _/_, suc, zero, ℕ}
+use Prim.Native.Nat.{ℕ}
 use lib.Dec.{eqb}
 use mathlib.Core.Bool.{cond}
-use mathlib.Core.List.{List, [], _++_}
+use mathlib.Core.List.{List, [], _++_, foldl}
 use Rattle.airframe.specs.Reflection.{reflectAirframe}
 use Rattle.airframe.specs.declared.Airframe.{Airframe}
 use Rattle.answers.specs.Answers.{numberOf}
@@ -12,7 +12,7 @@ use Rattle.flight.specs.declared.Flight.{Flight}
 use Rattle.flight.specs.declared.Tick.{Tick}
 use Rattle.lines.specs.Leg.{oneMore}
 use Rattle.lines.specs.Text.{lineText, mirroredText}
-use Rattle.state_block.specs.Layout.{tickBytes, tickFrom}
+use Rattle.trace.specs.Trace.{ticksOf}
 use Rattle.wing.specs.Tick.{tickOf}
 use Rattle.wing.specs.declared.Ticked.{Ticked}
 use Rattle.mirror.specs.Compare.{mirroredTick}
@@ -64,11 +64,6 @@ tracksAfter p x y = record {
 unfoldable pub tracksOn : Airframe → Tracks → Tick → Tracks
 tracksOn a p t = tracksAfter p (tickOf a (p .first) t) (tickOf (reflectAirframe a) (p .second) (reflectTick t))
 
--- the first n ticks of the bytes
-unfoldable pub tracksOver : Airframe → Tracks → List ℕ → ℕ → Tracks
-tracksOver a p s zero = p
-tracksOver a p s (suc n) = tracksOn a (tracksOver a p s n) (tickFrom s (tickBytes * n))
-
 -- ---- the lines
 
 -- those of a tick that gave x, and y in the reflection
@@ -79,14 +74,24 @@ pairText index x y = lineText index (x .report .answer) (x .flight) ++ mirroredT
 unfoldable pub textOn : Airframe → Tracks → Tick → List ℕ
 textOn a p t = pairText (oneMore (p .ticks)) (tickOf a (p .first) t) (tickOf (reflectAirframe a) (p .second) (reflectTick t))
 
--- those of the first n ticks of the bytes
-unfoldable pub textOver : Airframe → Tracks → List ℕ → ℕ → List ℕ
-textOver a p s zero = []
-textOver a p s (suc n) = textOver a p s n ++ textOn a (tracksOver a p s n) (tickFrom s (tickBytes * n))
+-- ---- the ticks of a trace, one after the other
 
--- ---- the whole ticks among the first n bytes, after those that p has flown
-abbrev pub tracksFlown : Airframe → Track → List ℕ → ℕ → Tracks
-tracksFlown a p s n = tracksOver a (tracksOf p) s (n / tickBytes)
+-- the tracks after some ticks, and the text of their lines
+pub record Shown : Type 0 where
+  pub tracks : Tracks
+  pub text : List ℕ
 
-abbrev pub textFlown : Airframe → Track → List ℕ → ℕ → List ℕ
-textFlown a p s n = textOver a (tracksOf p) s (n / tickBytes)
+-- one tick more
+unfoldable pub shownOn : Airframe → Shown → Tick → Shown
+shownOn a p t = record { tracks = tracksOn a (p .tracks) t; text = p .text ++ textOn a (p .tracks) t }
+
+-- some ticks, from the tracks p on
+unfoldable pub shownOver : Airframe → Tracks → List Tick → Shown
+shownOver a p ts = foldl (shownOn a) (record { tracks = p; text = [] }) ts
+
+-- the ticks of a trace, after those that p has flown: the tracks, and the text of their lines
+abbrev pub tracksFlown : Airframe → Track → List ℕ → Tracks
+tracksFlown a p s = shownOver a (tracksOf p) (ticksOf s) .tracks
+
+abbrev pub textFlown : Airframe → Track → List ℕ → List ℕ
+textFlown a p s = shownOver a (tracksOf p) (ticksOf s) .text

@@ -21,13 +21,14 @@ fn fly(a: Airframe, f: Flight, input: Input, name: &[u8; 65536])
     let mut turns = u64::MAX;
     while turns > 0 {
         let got = lines::read_ticks(input.fd, &mut ticks);
-        p = track::fly_some(a, p, &ticks, got.end, &mut out);
-        let end = report::put_end(&mut out, p, got.end);
+        let n = got.end;
+        p = track::fly_some(a, p, &ticks[..n], &mut out);
+        let end = report::put_end(&mut out, p, n);
         let well = lines::turn(b"mirror", name, input, got.failed, &out, end);
         if !well {
             return;
         }
-        if got.end < lines::TICKS_BYTES {
+        if n < lines::TICKS_BYTES {
             return;
         }
         turns -= 1;

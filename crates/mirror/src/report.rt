@@ -80,5 +80,5 @@ pub fn put_end(out: &mut [u8; 65536], p: Track, n: usize) -> usize
     if n == lines::TICKS_BYTES {
         return end;
     }
-    put_summary(out, end, p, n % state_block::TICK_BYTES != 0)
+    put_summary(out, end, p, n % trace::TICK_BYTES != 0)
 }

@@ -4,7 +4,7 @@ ghost use Prim.Native.Nat.{_+_, _*_, _≤_};
 ghost use lib.ListN.{length};
 ghost use Rattle.lines.specs.Text.{placed};
 ghost use Rattle.mirror.specs.Tracks as Tracks;
-ghost use Rattle.state_block.specs.Layout.{tickBytes};
+ghost use Rattle.trace.specs.Tick.{tickBytes};
 use crate::compare;
 use airframe::Airframe;
 use answers::Answer;
@@ -115,25 +115,19 @@ fn fly_one(a: Airframe, p: Track, t: Tick, out: &mut [u8; 65536]) -> Track
     after(p, x, y, at)
 }
 
-// Flies the whole ticks among the first n bytes of `ticks`, and puts their lines at the page's start.
-pub fn fly_some(
-    a: Airframe,
-    p: Track,
-    ticks: &[u8; 65536],
-    n: usize,
-    out: &mut [u8; 65536],
-) -> Track
-    requires { ⌜ n ≤ 200 * tickBytes ⌝ }
-    ensures tracks { λ r. ⌜ Tracks.tracksOf r ≡ Tracks.tracksFlown a p (now (ticks .entry)) n ⌝ }
-    ensures page { λ _. ⌜ now (out .exit) ≡ placed (now (out .entry)) 0 (Tracks.textFlown a p (now (ticks .entry)) n) ⌝ }
-    ensures end { λ r. ⌜ r .at ≡ length (Tracks.textFlown a p (now (ticks .entry)) n) ⌝ ∗ ⌜ r .at ≤ 64000 ⌝ }
+// Flies the trace's whole ticks, and puts their lines at the page's start.
+pub fn fly_some(a: Airframe, p: Track, trace: &[u8], out: &mut [u8; 65536]) -> Track
+    requires { ⌜ length (now trace) ≤ 200 * tickBytes ⌝ }
+    ensures tracks { λ r. ⌜ Tracks.tracksOf r ≡ Tracks.tracksFlown a p (now (trace .entry)) ⌝ }
+    ensures page { λ _. ⌜ now (out .exit) ≡ placed (now (out .entry)) 0 (Tracks.textFlown a p (now (trace .entry))) ⌝ }
+    ensures end { λ r. ⌜ r .at ≡ length (Tracks.textFlown a p (now (trace .entry))) ⌝ ∗ ⌜ r .at ≤ 64000 ⌝ }
 {
-    let count = n / state_block::TICK_BYTES;
+    let count = trace::tick_count(trace);
     let mut pair = p;
     pair.at = 0;
-    let mut i = 0;
+    let mut i = 0usize;
     while i < count {
-        let t = state_block::read_tick(ticks, state_block::TICK_BYTES * i);
+        let t = trace::tick_at(trace, i);
         pair = fly_one(a, pair, t, out);
         i += 1;
     }

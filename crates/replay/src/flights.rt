@@ -66,7 +66,7 @@ fn after_airframe(a: Airframe, bytes: &[u8], to: usize, n: usize, out: &mut [u8;
     if answer.number() != 0 {
         return lines::put_refusal(out, 0, answer);
     }
-    let p = lines::fly_ticks(a, lines::start(s.flight), bytes, from, n, out);
+    let p = lines::fly_ticks(a, lines::start(s.flight), &bytes[from..n], out);
     lines::put_end(out, p.at, n - from)
 }
 

@@ -8,6 +8,7 @@ use Rattle.airframe.specs.declared.Airframe.{Airframe}
 use Rattle.answers.specs.declared.Answer.the-variants.{Done, WrongLength}
 use Rattle.flight.specs.declared.Flight.{Flight}
 use Rattle.flight.specs.declared.Tick.{Tick}
+use Rattle.trace.specs.Trace.{isWhole, ticksOf}
 use Rattle.wing.proofs.Lift.{lift-stays}
 use Rattle.wing.proofs.Scales.{scale-stays}
 use Rattle.wing.specs.Tick.{tickOf}
@@ -15,7 +16,7 @@ use Rattle.wing.specs.declared.Ticked.{Ticked}
 use Rattle.run.proofs.Calls.{all-calls, lent-flown, value-flown}
 use Rattle.run.specs.Calls.{Chain, LentCall, ValueCall}
 use Rattle.run.specs.Mirrored.{All}
-use Rattle.run.specs.Run.{Progress, Told, callsOf, ended, isWhole, progressed, ranOf, ranOver, runFrom, runOf, ticksOf}
+use Rattle.run.specs.Run.{Progress, Told, callsOf, ended, progressed, ranOf, ranOver, runFrom, runOf}
 
 -- a part of the state that no tick alters
 abbrev pub Stays : Airframe → (Flight → List Float) → Type 0

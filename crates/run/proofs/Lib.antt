@@ -2,5 +2,4 @@
 pub mod Turns
 pub mod Calls
 pub mod Mirror
-pub mod Bytes
 pub mod Kept

@@ -28,9 +28,10 @@ use Rattle.wing.specs.Tick.{tickOf}
 use Rattle.wing.specs.declared.Ticked.{Ticked}
 use Rattle.run.proofs.Calls.{all-calls, by-definition, lent-flown, value-flown}
 use Rattle.run.proofs.Turns.{stays-inside}
+use Rattle.trace.specs.Trace.{isWhole}
 use Rattle.run.specs.Calls.{Each, each-more, each-none}
 use Rattle.run.specs.Mirrored.{AcceptedState, Agree, All, Angles, ByDefinition, Demand3, InRange, Mirrored, MirroredFlights, RanRel, Ranges}
-use Rattle.run.specs.Run.{Progress, Told, callsOf, ended, isWhole, oneIfDone, progressed, ranOver, runFrom, runOf, toldBy}
+use Rattle.run.specs.Run.{Progress, Told, callsOf, ended, oneIfDone, progressed, ranOver, runFrom, runOf, toldBy}
 
 -- ---- the ticks of a reflected list
 ticks-mirror : (ts : List Tick) → Each TickRel ts (map reflectTick ts)

@@ -1,44 +1,29 @@
--- A loop over a trace's ticks: one turn, and the end. Assumes nothing.
-use Prim.Native.Nat.{_*_, _+_, _-_, _<_, _≤_, suc, ℕ}
-use mathlib.Core.Bool.{Bool, false, true, true≢false}
+-- A run over a trace's ticks: what a turn of its loop keeps, which ticks leave a run as it was, and the ticks reflected. Assumes nothing.
+use Prim.Native.Nat.{_%_, _+_, ℕ}
+use lib.Dec.{eqb}
+use mathlib.Core.Bool.{cond, false, true, true≢false}
 use mathlib.Core.List.{List, [], _∷_, map}
 use mathlib.Core.Path.{_∙_, _≡_, ap, ap₂, refl, sym}
 use native.Mathlib.Nat.{add-zero}
-use native.Mathlib.Numerals.{add-one}
-use native.Mathlib.Omega.{arith}
 use Rattle.airframe.specs.Acceptance.{refusedPlace}
 use Rattle.airframe.specs.declared.Airframe.{Airframe}
 use Rattle.answers.specs.Answers.{numberOf}
 use Rattle.answers.specs.declared.Answer.{Answer}
+use Rattle.answers.specs.declared.Answer.the-variants.{Done, WrongLength}
 use Rattle.flight.specs.Envelope.{isInside}
 use Rattle.flight.specs.Reflection.{reflectTick}
 use Rattle.flight.specs.declared.Flight.{Flight}
 use Rattle.flight.specs.declared.Tick.{Tick}
 use Rattle.ordered.proofs.Ordered.{some-eqb}
-use Rattle.state_block.specs.Layout.{tickBytes, tickFrom}
+use Rattle.trace.proofs.Reflection.{Bytes, reflected-length, reflected-ticks}
+use Rattle.trace.specs.Reflection.{reflectTrace}
+use Rattle.trace.specs.Tick.{tickBytes}
+use Rattle.trace.specs.Trace.{ticksOf}
 use Rattle.wing.proofs.Passed.{Passed, of-tick}
 use Rattle.wing.specs.Tick.{refusedOf, tickOf, windUsable}
 use Rattle.wing.specs.declared.Ticked.{Ticked}
 use Rattle.run.specs.Contracts.{reflectedIf}
-use Rattle.run.specs.Run.{Progress, oneIfDone, progressed, runFrom, ticksFrom}
-
--- what is left of the run at tick i of n
-abbrev pub left : Bool → Airframe → List ℕ → ℕ → ℕ → Progress → Progress
-left r a s i n p = runFrom a p (map (reflectedIf r) (ticksFrom s i (n - i)))
-
-pub turn : (r : Bool) (a : Airframe) (s : List ℕ) (i n : ℕ) (p : Progress) → i < n → left r a s i n p ≡ left r a s (i + 1) n (progressed a p (reflectedIf r (tickFrom s (tickBytes * i))))
-unfolding runFrom ticksFrom
-turn r a s i n p l = ap (λ (m : ℕ). runFrom a p (map (reflectedIf r) (ticksFrom s i m))) (less i n l) ∙ ap (λ (j : ℕ). runFrom a (progressed a p (reflectedIf r (tickFrom s (tickBytes * i)))) (map (reflectedIf r) (ticksFrom s j (n - (i + 1))))) (sym (add-one i))
-  where
-    less : (i n : ℕ) → i < n → n - i ≡ suc (n - (i + 1))
-    less i n l = omega arith
-
-pub turned : (r : Bool) (a : Airframe) (s : List ℕ) (i n : ℕ) (p : Progress) → n ≤ i → left r a s i n p ≡ p
-unfolding runFrom ticksFrom
-turned r a s i n p l = ap (λ (m : ℕ). runFrom a p (map (reflectedIf r) (ticksFrom s i m))) (none i n l)
-  where
-    none : (i n : ℕ) → n ≤ i → n - i ≡ 0
-    none i n l = omega arith
+use Rattle.run.specs.Run.{Progress, ended, oneIfDone, progressed, ranOf, ranOver, runFrom, runOf}
 
 -- a tick that cannot pass every test leaves state and count
 stays : (a : Airframe) (p : Progress) (t : Tick) → (Passed a (p .flight) t → ⊥) → progressed a p t ≡ p
@@ -79,10 +64,6 @@ progress a p t u k n h g m =
     let q : k ≡ tickOf a (p .flight) t = g ∙ ap (tickOf a (p .flight)) h in
     ap₂ (λ (x : Ticked) (j : ℕ). record { flight = x .flight; accepted = p .accepted + j }) q (m ∙ ap (λ (x : Ticked). oneIfDone (x .report .answer)) q)
 
--- at the end
-pub whole : (n : ℕ) → n - 0 ≡ n
-whole n = omega arith
-
 -- ---- the ticks as they are, and each one reflected
 pub plain-track : (ts : List Tick) → map (reflectedIf false) ts ≡ ts
 unfolding reflectedIf
@@ -93,3 +74,12 @@ pub reflected-track : (ts : List Tick) → map (reflectedIf true) ts ≡ map ref
 unfolding reflectedIf
 reflected-track [] = refl
 reflected-track (t ∷ ts) = ap (λ (us : List Tick). reflectTick t ∷ us) (reflected-track ts)
+
+-- so the run over the reflected bytes is the run over the reflected ticks
+pub reflected-run : (a : Airframe) (f : Flight) (s : List ℕ) → Bytes s → ranOf a f (reflectTrace s) ≡ ranOver a f s (map reflectTick (ticksOf s))
+unfolding ranOf ranOver
+reflected-run a f s h =
+    ap₂
+    (λ (n : ℕ) (ts : List Tick). cond (eqb (n % tickBytes) 0) (ended Done (runOf a f ts .flight) (runOf a f ts .accepted)) (ended WrongLength f 0))
+    (reflected-length s)
+    (reflected-ticks s h)

@@ -9,7 +9,8 @@ use Rattle.answers.specs.declared.Answer.the-variants.{Done}
 use Rattle.flight.specs.Reflection.{reflectTick}
 use Rattle.flight.specs.declared.Flight.{Flight}
 use Rattle.flight.specs.declared.Tick.{Tick}
-use Rattle.run.specs.Run.{ended, ranOver, runOf, ticksOf}
+use Rattle.trace.specs.Trace.{ticksOf}
+use Rattle.run.specs.Run.{Progress, ended, progressed, ranOver, runOf}
 use Rattle.run.specs.declared.Ran.{Ran}
 
 -- a tick as it is, or reflected
@@ -19,6 +20,10 @@ reflectedIf reflect t = cond reflect (reflectTick t) t
 -- the ticks of a track
 abbrev pub trackTicks : Bool → List ℕ → List Tick
 trackTicks reflect s = map (reflectedIf reflect) (ticksOf s)
+
+-- a run's progress by a tick of a track
+abbrev pub trackOn : Bool → Airframe → Progress → Tick → Progress
+trackOn reflect a p t = progressed a p (reflectedIf reflect t)
 
 -- its run
 unfoldable pub trackRan : Bool → Airframe → Flight → List ℕ → Ran

@@ -25,10 +25,12 @@ use Rattle.float.specs.Notation.{minusOne, nought, one}
 use Rattle.float.specs.Same.{Opposite, Same}
 use Rattle.mixers.specs.Slots.{at}
 use Rattle.motors.specs.Running.{MotorsInRange}
+use Rattle.trace.specs.Reflection.{reflectTrace}
+use Rattle.trace.specs.Trace.{ticksOf}
 use Rattle.wing.specs.Tick.{densityFor}
 use Rattle.wing.specs.declared.Ticked.{Ticked}
 use Rattle.run.specs.Calls.{Chain, Each, LentCall, ValueCall}
-use Rattle.run.specs.Run.{Told, acceptedIn, callsOf, ranOf, reflectTrace, runOf, ticksOf, toldBy}
+use Rattle.run.specs.Run.{Told, acceptedIn, callsOf, ranOf, runOf, toldBy}
 use Rattle.run.specs.declared.Pair.{Pair}
 use Rattle.run.specs.declared.Ran.{Ran}
 

@@ -1,19 +1,17 @@
 -- 01, "A run by demand 2's definition": ticks one by one, always with the same airframe; a tick starts from what the tick before
 -- it handed back, after a refusal too. Definitions only.
-use Prim.Native.Nat.{_%_, _*_, _+_, _/_, suc, zero, ℕ}
+use Prim.Native.Nat.{_+_, ℕ}
 use lib.Dec.{eqb}
 use lib.Ieee.{Float}
-use lib.ListN.{length}
-use mathlib.Core.Bool.{Bool, cond}
-use mathlib.Core.List.{List, [], _∷_}
+use mathlib.Core.Bool.{cond}
+use mathlib.Core.List.{List, [], _∷_, foldl}
 use Rattle.airframe.specs.declared.Airframe.{Airframe}
 use Rattle.answers.specs.Answers.{numberOf, placeOf}
 use Rattle.answers.specs.declared.Answer.{Answer}
 use Rattle.answers.specs.declared.Answer.the-variants.{Done, WrongLength}
 use Rattle.flight.specs.declared.Flight.{Flight}
 use Rattle.flight.specs.declared.Tick.{Tick}
-use Rattle.state_block.specs.Layout.{tickBytes, tickFrom}
-use Rattle.state_block.specs.Reflection.{reflectTickBytes}
+use Rattle.trace.specs.Trace.{isWhole, ticksOf}
 use Rattle.wing.specs.Tick.{tickOf}
 use Rattle.wing.specs.declared.Ticked.{Ticked}
 use Rattle.run.specs.declared.Ran.{Ran}
@@ -34,9 +32,9 @@ progressed a p t = record {
   accepted = p .accepted + oneIfDone (tickOf a (p .flight) t .report .answer);
 }
 
+-- one tick after the other
 unfoldable pub runFrom : Airframe → Progress → List Tick → Progress
-runFrom a p [] = p
-runFrom a p (t ∷ ts) = runFrom a (progressed a p t) ts
+runFrom a p ts = foldl (progressed a) p ts
 
 -- at first the given state and 0
 unfoldable pub runOf : Airframe → Flight → List Tick → Progress
@@ -73,17 +71,9 @@ unfoldable pub acceptedIn : List Told → ℕ
 acceptedIn [] = 0
 acceptedIn (k ∷ ks) = cond (eqb (k .answer) 0) 1 0 + acceptedIn ks
 
--- ---- over a trace's bytes: whole ticks
-abbrev pub isWhole : List ℕ → Bool
-isWhole s = eqb (length s % tickBytes) 0
+-- ---- over a trace's bytes
 
-unfoldable pub ticksFrom : List ℕ → ℕ → ℕ → List Tick
-ticksFrom s i zero = []
-ticksFrom s i (suc n) = tickFrom s (tickBytes * i) ∷ ticksFrom s (suc i) n
-
-unfoldable pub ticksOf : List ℕ → List Tick
-ticksOf s = ticksFrom s 0 (length s / tickBytes)
-
+-- what a run hands back
 unfoldable pub ended : Answer → Flight → ℕ → Ran
 ended x f n = record { answer = x; flight = f; accepted = n }
 
@@ -94,11 +84,3 @@ ranOver a f s ts =
 
 unfoldable pub ranOf : Airframe → Flight → List ℕ → Ran
 ranOf a f s = ranOver a f s (ticksOf s)
-
--- ---- a trace reflected on its bytes: the sign bit of each tick's wind east flipped (01, "Reflection negates")
-unfoldable pub reflectTo : List ℕ → ℕ → List ℕ
-reflectTo s zero = s
-reflectTo s (suc n) = reflectTickBytes (reflectTo s n) (tickBytes * n)
-
-unfoldable pub reflectTrace : List ℕ → List ℕ
-reflectTrace s = reflectTo s (length s / tickBytes)

@@ -1,11 +1,10 @@
 // The run over a trace of ticks, and the mirrored pair of runs.
 ghost use mathlib.Core.Path.{_≡_};
-ghost use Prim.Native.Nat.{_≤_, _+_, _*_};
-ghost use Rattle.state_block.specs.Layout.{tickBytes, tickFrom};
-ghost use lib.ListN.{length};
+ghost use Prim.Native.Nat.{_<_, _≤_};
 ghost use mathlib.Core.Bool.{true};
 ghost use Rattle.airframe.specs.Acceptance.{refusedPlace};
 ghost use Rattle.flight.specs.Envelope.{isInside};
+ghost use Rattle.trace.specs.Trace.{tickAt, tickCount};
 ghost use Rattle.run.specs.Contracts as Contracts;
 ghost use Rattle.run.specs.Run as Run;
 ghost use Rattle.run.specs.Mirrored as Mirrored;
@@ -25,13 +24,6 @@ pub struct Ran {
 pub struct Pair {
     pub first: Ran,
     pub second: Ran,
-}
-
-// Whether the trace is whole ticks.
-pub fn is_whole(trace: &[u8]) -> bool
-    ensures { λ r. ⌜ r ≡ Run.isWhole (now (trace .entry)) ⌝ }
-{
-    trace.len() % state_block::TICK_BYTES == 0
 }
 
 // Flies the whole trace from `f`; a refused tick does not end the run. A trace that is not whole ticks gets 1, and `f` back.
@@ -54,7 +46,7 @@ pub fn mirrored_pair(a: Airframe, f: Flight, trace: &[u8]) -> Pair
 fn run_track(a: Airframe, f: Flight, trace: &[u8], reflect: bool) -> Ran
     ensures { λ r. ⌜ r ≡ Contracts.trackRan reflect a f (now (trace .entry)) ⌝ }
 {
-    if is_whole(trace) {
+    if trace::is_whole(trace) {
         if a.refused_place() == 0 {
             if f.is_inside() {
                 return fly_all(a, f, trace, reflect);
@@ -82,7 +74,7 @@ fn fly_all(a: Airframe, f: Flight, trace: &[u8], reflect: bool) -> Ran
     requires { ⌜ refusedPlace a ≡ 0 ⌝ ∗ ⌜ isInside f ≡ true ⌝ }
     ensures { λ r. ⌜ r ≡ Contracts.trackFlown reflect a f (now (trace .entry)) ⌝ }
 {
-    let count = trace.len() / state_block::TICK_BYTES;
+    let count = trace::tick_count(trace);
     let mut flight = f;
     let powers = libm::powers_of_two();
     let densities = air::densities();
@@ -104,10 +96,10 @@ fn fly_all(a: Airframe, f: Flight, trace: &[u8], reflect: bool) -> Ran
 
 // The trace's tick i, as it is or reflected.
 fn tick_at(trace: &[u8], i: usize, reflect: bool) -> Tick
-    requires { ⌜ tickBytes * i + tickBytes ≤ length (now trace) ⌝ }
-    ensures { λ r. ⌜ r ≡ Contracts.reflectedIf reflect (tickFrom (now (trace .entry)) (tickBytes * i)) ⌝ }
+    requires { ⌜ i < tickCount (now trace) ⌝ }
+    ensures { λ r. ⌜ r ≡ Contracts.reflectedIf reflect (tickAt (now (trace .entry)) i) ⌝ }
 {
-    let t = state_block::read_tick(trace, state_block::TICK_BYTES * i);
+    let t = trace::tick_at(trace, i);
     if reflect {
         return t.reflected();
     }

@@ -1,5 +1,3 @@
--- Laws of the state block and the tick block.
-pub mod Writing
+-- Laws of the state block.
 pub mod RoundTrip
-pub mod Reflection
 pub mod Reading

@@ -12,7 +12,8 @@ use Rattle.answers.specs.declared.Answer.the-variants.{Done, StateOutside, Wron
 use Rattle.float.proofs.Tests.{either}
 use Rattle.flight.specs.Envelope.{outsideOf}
 use Rattle.flight.specs.declared.Flight.{Flight}
-use Rattle.state_block.specs.Layout.{acceptedState, flightFrom, flightWith, floatsFrom, liftAt, readFullOf, readStateOf, refusedState, scalesAt, stateBytes, testedState, unlifted, unscaled}
+use Rattle.block_parts.specs.Parts.{floatsFrom}
+use Rattle.state_block.specs.Layout.{acceptedState, flightFrom, flightWith, liftAt, readFullOf, readStateOf, refusedState, scalesAt, stateBytes, testedState, unlifted, unscaled}
 use Rattle.state_block.specs.declared.StateRead.{StateRead}
 
 abbrev Within : StateRead → Type 0

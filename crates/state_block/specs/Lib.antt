@@ -1,3 +1,2 @@
--- The state block and the tick block. Definitions only.
+-- The state block. Definitions only.
 pub mod Layout
-pub mod Reflection

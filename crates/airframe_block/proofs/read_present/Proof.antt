@@ -4,7 +4,7 @@ use mathlib.Core.Path.{_∙_, _≡_, ap, refl}
 use native.Mathlib.Nat.{le-antisymm}
 use borrow.Author.Needs.{needs}
 use Rattle.airframe.specs.Numbers.{numbersCount}
-use Rattle.state_block.specs.Layout.{floatAt}
+use Rattle.block_parts.specs.Parts.{floatAt}
 use Rattle.airframe_block.specs.Block.{putNumbers}
 use Rattle.airframe_block.proofs.Segments.{numbers-more}
 use Rattle.airframe_block.proofs.read_present.Statement.{statement}

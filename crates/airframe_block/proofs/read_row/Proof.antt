@@ -1,6 +1,6 @@
 -- `airframe_block::read_row` meets its contract. Assumes nothing.
 use borrow.Author.Needs.{needs}
-use Rattle.state_block.specs.Layout.{floatAt}
+use Rattle.block_parts.specs.Parts.{floatAt}
 use Rattle.airframe_block.specs.Block.{rowFrom}
 use Rattle.airframe_block.proofs.read_row.Statement.{statement}
 use Rattle.airframe_block.proofs.read_row.Tie as tie

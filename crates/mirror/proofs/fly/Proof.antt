@@ -1,6 +1,10 @@
 -- `mirror::fly` meets its contract. Assumes nothing.
 use Prim.Native.Nat.{_≤_}
+use lib.ListN.{length-take}
+use mathlib.Core.Path.{sym}
+use native.Mathlib.Omega.{arith}
 use borrow.Author.Needs.{needs}
+use borrow.Table.Elements.{length-take-le}
 use Rattle.mirror.proofs.fly.Statement.{statement}
 use Rattle.mirror.proofs.fly.Tie as tie
 
@@ -25,8 +29,16 @@ loop-holds c = search needs
 read-ticks-requires : tie.Need-read-ticks-requires Inv-loop μ-loop
 read-ticks-requires c κs = search needs
 
+array-share-prefix-ticks : tie.Need-array-share-prefix-ticks Inv-loop μ-loop
+array-share-prefix-ticks c = omega (arith, c .read-ticks .ensures .0, c .read-ticks .ensures .1)
+
+slice-aggregate-fly-some : tie.Need-slice-aggregate-fly-some Inv-loop μ-loop
+slice-aggregate-fly-some c =
+    let r = c .before .read-ticks in
+    sym (length-take-le (r .result .end) (r .last .1 .0) (omega (arith, r .ensures .0, r .ensures .1)))
+
 fly-some-requires : tie.Need-fly-some-requires Inv-loop μ-loop
-fly-some-requires c κs = search needs
+fly-some-requires c κs = simp length-take (omega (arith, c .before .before .read-ticks .ensures .0))
 
 put-end-requires : tie.Need-put-end-requires Inv-loop μ-loop
 put-end-requires c κs = search needs
@@ -66,6 +78,8 @@ fly-spec =
     start-requires
     loop-holds
     read-ticks-requires
+    array-share-prefix-ticks
+    slice-aggregate-fly-some
     fly-some-requires
     put-end-requires
     slice-aggregate-turn

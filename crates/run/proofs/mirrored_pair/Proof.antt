@@ -1,5 +1,4 @@
 -- `run::mirrored_pair` meets its contract. Assumes nothing.
-use Prim.Native.Nat.{_<_, ℕ}
 use mathlib.Core.List.{map}
 use mathlib.Core.Path.{_∙_, _≡_, ap, sym}
 use native.Mathlib.Omega.{arith}
@@ -7,13 +6,13 @@ use borrow.Author.Needs.{needs}
 use Rattle.airframe.specs.Reflection.{reflectAirframe}
 use Rattle.flight.specs.Reflection.{reflectFlight, reflectTick}
 use Rattle.float.proofs.Held.{field-held}
-use Rattle.float.specs.Bytes.{byteAt}
+use Rattle.trace.proofs.Reflection.{Bytes, reflected-ticks}
+use Rattle.trace.specs.Trace.{ticksOf}
 use Rattle.wing.proofs.Running.{Held}
-use Rattle.run.proofs.Bytes.{reflected-run, reflected-ticks}
 use Rattle.run.proofs.Mirror.{demand3, ran-mirror}
-use Rattle.run.proofs.Turns.{plain-track, reflected-track}
+use Rattle.run.proofs.Turns.{plain-track, reflected-run, reflected-track}
 use Rattle.run.specs.Contracts.{trackRan}
-use Rattle.run.specs.Run.{ranOf, ranOver, ticksOf}
+use Rattle.run.specs.Run.{ranOf, ranOver}
 use Rattle.run.proofs.mirrored_pair.Statement.{statement}
 use Rattle.run.proofs.mirrored_pair.Tie as tie
 
@@ -43,7 +42,7 @@ returns c =
     let a = k .before .args in
     let s = a .trace .now in
     let ts = ticksOf s in
-    let bytes : (i : ℕ) → byteAt s i < 256 = λ i. omega (arith, k .shared-slice-known .given i) in
+    let bytes : Bytes s = λ i. omega (arith, k .shared-slice-known .given i) in
     let second : c .run-track2 .result ≡ ranOver (reflectAirframe (a .a)) (reflectFlight (a .f)) s (map reflectTick ts) = c .run-track2 .ensures ∙ rw (c .before .before .reflected .ensures, c .before .reflected2 .ensures, reflected-track ts) in
     let first : c .before .before .before .run-track .result ≡ ranOver (a .a) (a .f) s ts = c .before .before .before .run-track .ensures ∙ ap (ranOver (a .a) (a .f) s) (plain-track ts) in
     record {

@@ -1,9 +1,10 @@
 -- `run::run` meets its contract. Assumes nothing.
 use mathlib.Core.Path.{_∙_, ap}
 use borrow.Author.Needs.{needs}
+use Rattle.trace.specs.Trace.{ticksOf}
 use Rattle.run.proofs.Turns.{plain-track}
 use Rattle.run.specs.Contracts.{trackRan}
-use Rattle.run.specs.Run.{ranOf, ranOver, ticksOf}
+use Rattle.run.specs.Run.{ranOf, ranOver}
 use Rattle.run.proofs.run.Statement.{statement}
 use Rattle.run.proofs.run.Tie as tie
 

@@ -1,6 +1,7 @@
 -- `run::run_track` meets its contract. Assumes nothing.
+use Rattle.trace.specs.Trace.{ticksOf}
 use Rattle.run.specs.Contracts.{reflectedIf, trackFlown, trackRan}
-use Rattle.run.specs.Run.{ranOver, runOf, ticksOf}
+use Rattle.run.specs.Run.{ranOver, runOf}
 use Rattle.run.proofs.Turns.{outside-run, refused-run}
 use Rattle.flight.specs.Envelope.{isInside}
 use Rattle.airframe.specs.Acceptance.{refusedPlace}

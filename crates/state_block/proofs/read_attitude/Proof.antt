@@ -1,6 +1,7 @@
 -- `state_block::read_attitude` meets its contract. Assumes nothing.
 use borrow.Author.Needs.{needs}
-use Rattle.state_block.specs.Layout.{attitudeFrom, floatAt}
+use Rattle.block_parts.specs.Parts.{floatAt}
+use Rattle.state_block.specs.Layout.{attitudeFrom}
 use Rattle.state_block.proofs.read_attitude.Statement.{statement}
 use Rattle.state_block.proofs.read_attitude.Tie as tie
 

@@ -1,6 +1,7 @@
 -- `state_block::write_attitude` meets its contract. Assumes nothing.
 use borrow.Author.Needs.{needs}
-use Rattle.state_block.specs.Layout.{putAttitude, putFloat}
+use Rattle.block_parts.specs.Parts.{putFloat}
+use Rattle.state_block.specs.Layout.{putAttitude}
 use Rattle.state_block.proofs.write_attitude.Statement.{statement}
 use Rattle.state_block.proofs.write_attitude.Tie as tie
 

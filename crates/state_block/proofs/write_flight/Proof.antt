@@ -4,7 +4,8 @@ use lib.Ieee.{Float}
 use mathlib.Core.List.{List}
 use mathlib.Core.Path.{_∙_, ap}
 use borrow.Author.Needs.{needs}
-use Rattle.state_block.specs.Layout.{liftAt, motorsAt, putBody, putFlight, putFloats, scalesAt, servosAt}
+use Rattle.block_parts.specs.Parts.{putFloats}
+use Rattle.state_block.specs.Layout.{liftAt, motorsAt, putBody, putFlight, scalesAt, servosAt}
 use Rattle.state_block.proofs.write_flight.Statement.{statement}
 use Rattle.state_block.proofs.write_flight.Tie as tie
 

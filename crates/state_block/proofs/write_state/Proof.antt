@@ -2,7 +2,8 @@
 use mathlib.Core.Path.{_∙_}
 use borrow.Author.Needs.{needs}
 use borrow.Author.Tests.{eq-eqb, ne-eqb}
-use Rattle.state_block.specs.Layout.{writeAnswer, writtenState}
+use Rattle.block_parts.specs.Parts.{writeAnswer}
+use Rattle.state_block.specs.Layout.{writtenState}
 use Rattle.state_block.proofs.write_state.Statement.{statement}
 use Rattle.state_block.proofs.write_state.Tie as tie
 

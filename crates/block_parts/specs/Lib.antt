@@ -1,0 +1,2 @@
+-- What blocks of bytes are made of. Definitions only.
+pub mod Parts

@@ -1,0 +1,4 @@
+-- The tick block, and traces of ticks. Definitions only.
+pub mod Tick
+pub mod Trace
+pub mod Reflection
