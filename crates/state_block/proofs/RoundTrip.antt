@@ -8,7 +8,8 @@ use lib.ListN.{length}
 use mathlib.Core.List.{List}
 use mathlib.Core.Path.{_∙_, _≡_}
 use native.Mathlib.Omega.{arith}
-use Rattle.block_parts.proofs.RoundTrip.{Kept, SlotsFit, VecFits, float-before, float-same, floats-fit, slots-before, slots-kept, slots-same, vec-before, vec-fits, vec-kept, vec-same}
+use Rattle.block_parts.proofs.RoundTrip.{Kept, SlotsFit, VecFits, float-before, float-same, floats-fit, slots-before, slots-kept, slots-same}
+use Rattle.block_parts.proofs.RoundTrip.{vec-before, vec-fits, vec-kept, vec-same}
 use Rattle.block_parts.proofs.Writing.{length-putFloat, length-putFloats, length-putVec}
 use Rattle.block_parts.specs.Parts.{floatAt, putFloat, putFloats, putVec}
 use Rattle.flight.specs.Envelope.{outsideOf}

@@ -72,18 +72,24 @@ begin-after-requires c κs =
 tick-inside-requires : tie.Need-tick-inside-requires Inv-loop μ-loop
 tick-inside-requires c κs =
     let s = c .before .before .before .before .before .before in
-    (s .before .before .before .before .before .before .before .pre .0, (s .loop .inv .4, (c .before .before .begin-after .ensures .0, (s .before .before .before .before .powers-of-two .ensures, s .before .before .before .densities .ensures))))
+    let begun = s .before .before .before in
+    let start = begun .before .before .before .before in
+    let factors = c .before .before .begin-after .ensures .0 in
+    (start .pre .0, (s .loop .inv .4, (factors, (begun .before .powers-of-two .ensures, begun .densities .ensures))))
 
 one-if-done-requires : tie.Need-one-if-done-requires Inv-loop μ-loop
 one-if-done-requires c κs = search needs
 
 add-accepted : tie.Need-add-accepted Inv-loop μ-loop
 add-accepted c =
-    let s = c .before .before .before .before .before .before .before .before .before in
-    record { fits = omega (arith, s .loop .inv .1, c .before .before .before .before .before .before .before .before .loop-test .taken, c .one-if-done .ensures .1, s .loop .inv .6 .fits) }
+    let t = c .before .before .before .before .before .before .before .before in
+    let s = t .before in
+    record { fits = omega (arith, s .loop .inv .1, t .loop-test .taken, c .one-if-done .ensures .1, s .loop .inv .6 .fits) }
 
 add-i : tie.Need-add-i Inv-loop μ-loop
-add-i c = record { fits = omega (arith, c .before .before .before .before .before .before .before .before .before .loop-test .taken, c .before .before .before .before .before .before .before .before .before .before .loop .inv .6 .fits) }
+add-i c =
+    let t = c .before .before .before .before .before .before .before .before .before in
+    record { fits = omega (arith, t .loop-test .taken, t .before .loop .inv .6 .fits) }
 
 loop-less : tie.Need-loop-less Inv-loop μ-loop
 loop-less c = search needs
