@@ -10,7 +10,7 @@ use Rattle.float.proofs.Interval.{clamp-in}
 use Rattle.float.proofs.Order.{finite-number}
 use Rattle.float.proofs.Sizes.{div-number, sized-finite}
 use Rattle.float.specs.Interval.{Within}
-use Rattle.float.specs.Notation.{_⊘_, clamp, nought, one}
+use Rattle.float.specs.Notation.{_⊘_, clamp, zero, one}
 use Rattle.libm.proofs.Angles.{asin-sized, atan2-sized}
 use Rattle.tailsitter_model.specs.declared.Wash.{Wash}
 use Rattle.vector.proofs.Range.{VecSized}
@@ -29,17 +29,22 @@ blend-argument x n = clamp-in (fin true 15 (pos 2)) sixty x tt tt (unfold le in 
 abbrev pub Angles : Aero → Type 0
 Angles r = T (finite (r .«alpha_rad»)) × T (finite (r .«beta_rad»))
 
-sideslip-finite : (v speed : Float) → T (finite v) → T (lt nought speed) → T (finite (sideslip v speed))
+sideslip-finite : (v speed : Float) → T (finite v) → T (lt zero speed) → T (finite (sideslip v speed))
 unfolding sideslip
 sideslip-finite v speed p q =
-    let w : Within (neg one) one (clamp (neg one) one (v ⊘ speed)) = clamp-in (neg one) one (v ⊘ speed) (unfold neg in tt) tt (unfold le neg in tt) (div-number v speed p q) in
+    let w : Within (neg one) one (clamp (neg one) one (v ⊘ speed)) = clamp-in (neg one) one (v ⊘ speed) (unfold neg in tt) tt (unfold le neg in tt)
+    (div-number v speed p q) in
     sized-finite (asin-sized (clamp (neg one) one (v ⊘ speed)) (record { within = w }))
 
-pub wrench-angles : {n : ℕ} (m : FixedWingModel) (air rates d : Vec3) (w : Wash) (density : Float) → VecSized n air → Angles (aeroWrench m air rates d w density)
+pub wrench-angles : {n : ℕ} (m : FixedWingModel) (air rates d : Vec3) (w : Wash) (density : Float) → VecSized n air
+    → Angles (aeroWrench m air rates d w density)
 unfolding aeroWrench movingOf movingAt withSurfaces flowOf flowAt stillOf washedSurfaces surfaceWrench
-wrench-angles m air rates d w density s = go (lt nought (normOf air)) (λ t. t)
+wrench-angles m air rates d w density s = go (lt zero (normOf air)) (λ t. t)
   where
-    go : (b : Bool) → (T b → T (lt nought (normOf air)))
+    go : (b : Bool) → (T b → T (lt zero (normOf air)))
         → Angles (cond b (movingOf m (normOf air) (flowOf m air density) (sideslip (air .y) (normOf air)) rates d w density) (stillOf m rates d w density))
-    go true h = (sized-finite (atan2-sized (air .z) (air .x) (sized-finite (s .z)) (finite-number (air .x) (sized-finite (s .x)))), sideslip-finite (air .y) (normOf air) (sized-finite (s .y)) (h tt))
+    go true h = (
+      sized-finite (atan2-sized (air .z) (air .x) (sized-finite (s .z)) (finite-number (air .x) (sized-finite (s .x)))),
+      sideslip-finite (air .y) (normOf air) (sized-finite (s .y)) (h tt),
+    )
     go false h = (tt, tt)

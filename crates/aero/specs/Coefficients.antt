@@ -7,7 +7,7 @@ use mathlib.Core.Bool.{cond}
 use Rattle.fixed_wing.specs.Falloff.{aspectRatio}
 use Rattle.fixed_wing.specs.declared.AeroCoefficients.{AeroCoefficients}
 use Rattle.fixed_wing.specs.declared.FixedWingModel.{FixedWingModel}
-use Rattle.float.specs.Notation.{_⊕_, _⊖_, _⊗_, _⊘_, clamp, half, nought, one, rounded, sizeOf, two}
+use Rattle.float.specs.Notation.{_⊕_, _⊖_, _⊗_, _⊘_, clamp, half, zero, one, rounded, abs, two}
 use Rattle.libm.specs.Atan.{pi}
 use Rattle.libm.specs.Exp.{expOf}
 
@@ -37,7 +37,7 @@ linearLift c alpha = c .«c_lift_0» ⊕ c .«c_lift_alpha» ⊗ alpha
 
 -- sign(α): 1 or -1; a NaN's is a NaN. The Rust's `signum` is -1 for -0, where this is 1: times sin²α = 0, that moves only a zero's sign
 unfoldable pub signOf : Float → Float
-signOf x = cond (lt x nought) (neg one) (cond (ne x x) nan one)
+signOf x = cond (lt x zero) (neg one) (cond (ne x x) nan one)
 
 unfoldable pub flatPlateLift : Float → Float → Float → Float
 flatPlateLift alpha s co = two ⊗ signOf alpha ⊗ s ⊗ s ⊗ co
@@ -65,13 +65,13 @@ abbrev pub quarterChord : Float
 quarterChord = rounded 25 100
 
 unfoldable pub staticMargin : AeroCoefficients → Float
-staticMargin c = cond (lt nought (c .«c_lift_alpha»)) (neg (c .«c_pitch_alpha») ⊘ c .«c_lift_alpha») nought
+staticMargin c = cond (lt zero (c .«c_lift_alpha»)) (neg (c .«c_pitch_alpha») ⊘ c .«c_lift_alpha») zero
 
 unfoldable pub plateNormal : Float → Float → Float → Float
 plateNormal alpha s co = flatPlateLift alpha s co ⊗ co ⊕ flatPlatePressureDrag s ⊗ s
 
 unfoldable pub flatPlatePitch : AeroCoefficients → Float → Float → Float → Float
-flatPlatePitch c alpha s co = neg (plateNormal alpha s co) ⊗ (quarterChord ⊕ half ⊗ sizeOf alpha ⊘ pi ⊖ (quarterChord ⊖ staticMargin c))
+flatPlatePitch c alpha s co = neg (plateNormal alpha s co) ⊗ (quarterChord ⊕ half ⊗ abs alpha ⊘ pi ⊖ (quarterChord ⊖ staticMargin c))
 
 unfoldable pub onSine : AeroCoefficients → Float → Float
 onSine c s = c .«c_pitch_0» ⊕ c .«c_pitch_alpha» ⊗ s
@@ -79,5 +79,5 @@ onSine c s = c .«c_pitch_0» ⊕ c .«c_pitch_alpha» ⊗ s
 -- from the attached flow's toward the plate's by the share, unless that is 0 or less
 unfoldable pub pitchCoefficient : AeroCoefficients → Float → Float → Float → Float → Float
 pitchCoefficient c alpha blend s co =
-    cond (le (c .«post_stall_pitch_share» ⊗ blend) nought) (onSine c s)
+    cond (le (c .«post_stall_pitch_share» ⊗ blend) zero) (onSine c s)
     (onSine c s ⊕ c .«post_stall_pitch_share» ⊗ blend ⊗ (c .«c_pitch_0» ⊕ flatPlatePitch c alpha s co ⊖ onSine c s))

@@ -2,7 +2,7 @@
 use lib.Ieee.{Float, binary32, lt, neg}
 use mathlib.Core.Bool.{cond}
 use Rattle.fixed_wing.specs.declared.FixedWingModel.{FixedWingModel}
-use Rattle.float.specs.Notation.{_⊕_, _⊖_, _⊗_, _⊘_, atLeastZero, clamp, half, nought, one, two}
+use Rattle.float.specs.Notation.{_⊕_, _⊖_, _⊗_, _⊘_, atLeastZero, clamp, half, zero, one, two}
 use Rattle.libm.specs.Atan.{asinOf, atan2Of}
 use Rattle.libm.specs.Sqrt.{sqrtOf}
 use Rattle.libm.specs.Trig.{cosOf, sinOf}
@@ -38,7 +38,7 @@ rateMoments m scale rates =
 
 -- ---- the surfaces: aileron (x), elevator (y), rudder (z); the aileron's under `roll`, the others' under `area`
 unfoldable pub aileronMoment : FixedWingModel → Float → Vec3 → Vec3
-aileronMoment m roll d = vec (roll ⊗ m .«span_m» ⊗ m .aero .«c_roll_aileron» ⊗ d .x) nought nought
+aileronMoment m roll d = vec (roll ⊗ m .«span_m» ⊗ m .aero .«c_roll_aileron» ⊗ d .x) zero zero
 
 unfoldable pub elevatorAndRudder : FixedWingModel → Vec3 → Vec3
 elevatorAndRudder m d =
@@ -49,10 +49,10 @@ elevatorAndRudder m d =
 
 unfoldable pub surfaceWrench : FixedWingModel → Float → Float → Vec3 → Aero
 surfaceWrench m roll area d = record {
-  «force_n» = vec nought (area ⊗ m .aero .«c_side_rudder» ⊗ d .z) nought;
+  «force_n» = vec zero (area ⊗ m .aero .«c_side_rudder» ⊗ d .z) zero;
   «torque_nm» = addOf (aileronMoment m roll d) (scaleOf (elevatorAndRudder m d) area);
-  «alpha_rad» = nought;
-  «beta_rad» = nought;
+  «alpha_rad» = zero;
+  «beta_rad» = zero;
 }
 
 -- the wash has one pressure for the roll action and one for the others
@@ -65,19 +65,19 @@ washedSurfaces m w free d =
 
 -- ---- the wash's pitch moment: in any flow, and more beyond the stall, by how much of the pressure is free stream
 unfoldable pub washPitch : FixedWingModel → Wash → Vec3
-washPitch m w = vec nought (w .«pitch_moment_pa» ⊗ m .«wing_area_m2» ⊗ m .«chord_m») nought
+washPitch m w = vec zero (w .«pitch_moment_pa» ⊗ m .«wing_area_m2» ⊗ m .«chord_m») zero
 
 unfoldable pub freeShare : Float → Float → Float
-freeShare free total = cond (lt nought total) (free ⊘ total) nought
+freeShare free total = cond (lt zero total) (free ⊘ total) zero
 
 unfoldable pub stallShare : Flow → Float → Float → Float
 stallShare f free pa = f .blend ⊗ freeShare free (free ⊕ atLeastZero pa) ⊗ atLeastZero (f .«cos_alpha»)
 
 unfoldable pub stallWash : FixedWingModel → Flow → Float → Wash → Vec3
 stallWash m f area w =
-    vec nought
+    vec zero
     (stallShare f (area ⊘ m .«wing_area_m2») (w .«pressure_pa») ⊗ w .«stall_pitch_moment_pa» ⊗ m .«wing_area_m2» ⊗ m .«chord_m»)
-    nought
+    zero
 
 -- ---- what lift, drag and pitch go by: α = atan2(w, u), and the pressure of √(u² + w²), the speed in the plane of symmetry
 -- departs: the book takes the whole airspeed's pressure for them
@@ -155,7 +155,7 @@ movingOf m speed f beta rates d w density = movingAt m speed f beta rates d w de
 
 unfoldable pub stillOf : FixedWingModel → Vec3 → Vec3 → Wash → Float → Aero
 stillOf m rates d w density =
-    let s = washedSurfaces m w nought d in
+    let s = washedSurfaces m w zero d in
     record {
       «force_n» = s .«force_n»;
       «torque_nm» = addOf (addOf (s .«torque_nm») (washPitch m w)) (rateMoments m (washRateScale m w density) rates);
@@ -166,6 +166,6 @@ stillOf m rates d w density =
 -- where V is not above 0, or a NaN, the air is still: alpha and beta are 0
 unfoldable pub aeroWrench : FixedWingModel → Vec3 → Vec3 → Vec3 → Wash → Float → Aero
 aeroWrench m air rates d w density =
-    cond (lt nought (normOf air))
+    cond (lt zero (normOf air))
     (movingOf m (normOf air) (flowOf m air density) (sideslip (air .y) (normOf air)) rates d w density)
     (stillOf m rates d w density)

@@ -437,14 +437,14 @@ fn static_margin_chords(c: AeroCoefficients) -> f32
 }
 
 // The plate's pitch moment: its normal force acts 0.25 chords behind the leading edge at alpha 0, 0.75 at ±π; aft of the centre
-// of gravity it turns the nose down.
+// of gravity it pitches the nose down.
 fn flat_plate_pitch(c: AeroCoefficients, alpha_rad: f32, sin_alpha: f32, cos_alpha: f32) -> f32
     ensures { λ r. ⌜ r ≡ Coefficients.flatPlatePitch c «alpha_rad» «sin_alpha» «cos_alpha» ⌝ }
 {
     let normal = flat_plate_lift(alpha_rad, sin_alpha, cos_alpha) * cos_alpha
         + flat_plate_pressure_drag(sin_alpha) * sin_alpha;
     let center_of_gravity = QUARTER_CHORD - static_margin_chords(c);
-    let center_of_pressure = QUARTER_CHORD + 0.5 * float::size(alpha_rad) / PI;
+    let center_of_pressure = QUARTER_CHORD + 0.5 * float::abs(alpha_rad) / PI;
     -normal * (center_of_pressure - center_of_gravity)
 }
 

@@ -22,7 +22,8 @@ density-same : {h h' : Float} → Rel false h h' → Rel false (densityAt h) (de
 unfolding densityAt
 density-same {h} {h'} r =
     r-cond (le h (heightOf 0)) (le h' (heightOf 0)) (r-le r (r-same (heightOf 0))) (r-same (densityOf 0))
-    (r-cond (le (heightOf lastRow) h) (le (heightOf lastRow) h') (r-le (r-same (heightOf lastRow)) r) (r-same (densityOf lastRow)) (rw (row-is lastRow r) (between-same (rowDownFrom lastRow h) r)))
+    (r-cond (le (heightOf lastRow) h) (le (heightOf lastRow) h') (r-le (r-same (heightOf lastRow)) r) (r-same (densityOf lastRow))
+    (rw (row-is lastRow r) (between-same (rowDownFrom lastRow h) r)))
 
 pub density-is : {h h' : Float} → Rel false h h' → densityAt h' ≡ densityAt h
 density-is {h} r = exact (density-same r) (density-nonzero h)

@@ -1,6 +1,8 @@
--- Where the density lies, for every height, rounding included: between two rows it never leaves their two densities, and nowhere does it grow with height. Each operation of the formula keeps or turns
+-- Where the density lies, for every height, rounding included: between two rows it never leaves their two densities, and nowhere
+-- does it grow with height. Each operation of the formula keeps or reverses
 -- the order, and at the step's two ends the formula gives the two rows. Assumes nothing.
-use Prim.Native.Nat.{_<_, _≤_, suc, zero, zero-le, ℕ}
+use Prim.Native.Nat as Nat
+use Prim.Native.Nat.{_<_, _≤_, suc, zero-le, ℕ}
 use lib.Dec.{T, T-not, leb, leb→le, nleb→lt}
 use lib.Ieee.{Float, add, binary32, div, fin, fits, inf, isNan, le, lt, mul, nan, neg, ofInt, round, sub}
 use lib.Ieee.Scale.{finite}
@@ -17,7 +19,7 @@ use Rattle.float.proofs.Rounding.{add-mono-r, divide-mono, mul-anti-r, sub-mono
 use Rattle.float.proofs.Tests.{All, all→, allb, everyBelow, everyBelow→}
 use Rattle.float.proofs.Zeros.{nonzero, zero-is-zero, zero-not-below}
 use Rattle.float.specs.Interval.{Within}
-use Rattle.float.specs.Notation.{_⊖_, _⊗_, _⊘_, nought, one, rounded}
+use Rattle.float.specs.Notation.{_⊖_, _⊗_, _⊘_, zero, one, rounded}
 use Rattle.float.specs.Same.{flip}
 use Rattle.air.proofs.Rows.{between-ends, densities-fall, height-finite, heights-climb, over-row, rise, row-inside, step, under-next}
 use Rattle.air.specs.Density.{between, densities, densityAt, densityOf, heightOf, lastRow, rowCount, rowDownFrom, tenThousandths}
@@ -33,36 +35,46 @@ module _ (i : ℕ) (l : i < lastRow) where
     pub under : T (le h (heightOf (suc i)))
 
   on-finite : (h : Float) → OnStep h → T (finite h)
-  on-finite h s = finite-between (heightOf i) h (heightOf (suc i)) (height-finite i (omega (arith, l))) (height-finite (suc i) (omega (arith, l))) (s .over) (s .under)
+  on-finite h s =
+      finite-between (heightOf i) h (heightOf (suc i)) (height-finite i (omega (arith, l))) (height-finite (suc i) (omega (arith, l))) (s .over)
+      (s .under)
 
-  over-in : (h : Float) → OnStep h → Within nought (rounded 100 1) (h ⊖ heightOf i)
+  over-in : (h : Float) → OnStep h → Within zero (rounded 100 1) (h ⊖ heightOf i)
   over-in h s =
       let t = step i l in
       let H = height-finite i (omega (arith, l)) in
       record {
-        at-least = le-trans-float nought (heightOf i ⊖ heightOf i) (h ⊖ heightOf i) (t .at-foot) (sub-mono binary32 (heightOf i) h (heightOf i) (heightOf i) H (on-finite h s) H H (s .over) (le-self (heightOf i) H));
-        at-most = le-trans-float (h ⊖ heightOf i) (heightOf (suc i) ⊖ heightOf i) (rounded 100 1) (sub-mono binary32 h (heightOf (suc i)) (heightOf i) (heightOf i) (on-finite h s) (height-finite (suc i) (omega (arith, l))) H H (s .under) (le-self (heightOf i) H)) (t .at-top);
+        at-least =
+            le-trans-float zero (heightOf i ⊖ heightOf i) (h ⊖ heightOf i) (t .at-foot)
+            (sub-mono binary32 (heightOf i) h (heightOf i) (heightOf i) H (on-finite h s) H H (s .over) (le-self (heightOf i) H));
+        at-most =
+            le-trans-float (h ⊖ heightOf i) (heightOf (suc i) ⊖ heightOf i) (rounded 100 1)
+            (sub-mono binary32 h (heightOf (suc i)) (heightOf i) (heightOf i) (on-finite h s) (height-finite (suc i) (omega (arith, l))) H H
+            (s .under) (le-self (heightOf i) H)) (t .at-top);
       }
 
-  share-in : (h : Float) → OnStep h → Within nought one (share h)
+  share-in : (h : Float) → OnStep h → Within zero one (share h)
   unfolding div round le fits
   share-in h s = div-in binary32 (rounded 100 1) (h ⊖ heightOf i) (rounded 100 1) (rounded 100 1) tt tt tt tt (over-in h s) tt
 
   share-finite : (h : Float) → OnStep h → T (finite (share h))
-  share-finite h s = within-finite nought one (share h) tt tt (share-in h s)
+  share-finite h s = within-finite zero one (share h) tt tt (share-in h s)
 
   share-mono : (x y : Float) → OnStep x → OnStep y → T (le x y) → T (le (share x) (share y))
   share-mono x y s t k =
       let H = height-finite i (omega (arith, l)) in
-      let above : (h : Float) → OnStep h → T (finite (h ⊖ heightOf i)) = λ h s. within-finite nought (rounded 100 1) (h ⊖ heightOf i) tt (unfold round in tt) (over-in h s) in
-      divide-mono binary32 (x ⊖ heightOf i) (y ⊖ heightOf i) (rounded 100 1) (rounded 100 1) (above x s) (above y t) (unfold round in tt) (unfold round in tt) (over-in x s .at-least) (over-in y t .at-least)
+      let above : (h : Float) → OnStep h → T (finite (h ⊖ heightOf i)) = λ h s. within-finite zero (rounded 100 1) (h ⊖ heightOf i) tt
+      (unfold round in tt) (over-in h s) in
+      divide-mono binary32 (x ⊖ heightOf i) (y ⊖ heightOf i) (rounded 100 1) (rounded 100 1) (above x s) (above y t) (unfold round in tt)
+      (unfold round in tt) (over-in x s .at-least) (over-in y t .at-least)
       (sub-mono binary32 x y (heightOf i) (heightOf i) (on-finite x s) (on-finite y t) H H k (le-self (heightOf i) H)) (unfold round le in tt)
 
   part-finite : (h : Float) → OnStep h → T (finite (rise i ⊗ share h))
   part-finite h s =
       let t = step i l in
-      finite-between (rise i ⊗ one) (rise i ⊗ share h) (rise i ⊗ nought) (t .of-whole) (t .of-none) (mul-anti-r binary32 (rise i) one (share h) (t .of-rise) tt (share-finite h s) (t .not-up) (share-in h s .at-most))
-      (mul-anti-r binary32 (rise i) (share h) nought (t .of-rise) (share-finite h s) tt (t .not-up) (share-in h s .at-least))
+      finite-between (rise i ⊗ one) (rise i ⊗ share h) (rise i ⊗ zero) (t .of-whole) (t .of-none)
+      (mul-anti-r binary32 (rise i) one (share h) (t .of-rise) tt (share-finite h s) (t .not-up) (share-in h s .at-most))
+      (mul-anti-r binary32 (rise i) (share h) zero (t .of-rise) (share-finite h s) tt (t .not-up) (share-in h s .at-least))
 
   step-falls : (x y : Float) → OnStep x → OnStep y → T (le x y) → T (le (between i y) (between i x))
   unfolding between
@@ -77,7 +89,9 @@ module _ (i : ℕ) (l : i < lastRow) where
       let foot : OnStep (heightOf i) = record { over = le-self (heightOf i) (height-finite i (omega (arith, l))); under = c } in
       let top : OnStep (heightOf (suc i)) = record { over = c; under = le-self (heightOf (suc i)) (height-finite (suc i) (omega (arith, l))) } in
       record {
-        at-least = le-trans-float (densityOf (suc i)) (between i (heightOf (suc i))) (between i h) (step i l .ends) (step-falls h (heightOf (suc i)) s top (s .under));
+        at-least =
+            le-trans-float (densityOf (suc i)) (between i (heightOf (suc i))) (between i h) (step i l .ends)
+            (step-falls h (heightOf (suc i)) s top (s .under));
         at-most = le-trans-float (between i h) (between i (heightOf i)) (densityOf i) (step-falls (heightOf i) h foot s (s .over)) (step i l .starts);
       }
 
@@ -156,35 +170,56 @@ module _ (x y : Float) (l : T (le x y)) where
   by-values {a} {b} e f t = rw (e, f) t
 
   on-steps : (s : Step-of x) (t : Step-of y) → Falls
-  on-steps s t = elim (le-or-lt (s .row) (t .row)) [ inl up ↦ elim (eq-or-lt-of-le up) [ inl same ↦ one-step same | inr less ↦ apart less ] | inr more ↦ absurd (turned more) ]
+  on-steps s t =
+      elim (le-or-lt (s .row) (t .row)) [
+        | inl up ↦ elim (eq-or-lt-of-le up) [ inl same ↦ one-step same | inr less ↦ apart less ]
+        | inr more ↦ absurd
+            (rotated more)
+      ]
     where
       one-step : s .row ≡ t .row → Falls
-      one-step e = by-values (s .is) (t .is ∙ ap (λ (i : ℕ). between i y) (sym e)) (step-falls (s .row) (s .inside) x y (s .on) (record { over = subst (λ (i : ℕ). T (le (heightOf i) y)) (sym e) (t .on .over); under = subst (λ (i : ℕ). T (le y (heightOf (suc i)))) (sym e) (t .on .under) }) l)
+      one-step e =
+          by-values (s .is) (t .is ∙ ap (λ (i : ℕ). between i y) (sym e))
+          (step-falls (s .row) (s .inside) x y (s .on)
+          (record {
+            over = subst (λ (i : ℕ). T (le (heightOf i) y)) (sym e) (t .on .over);
+            under = subst (λ (i : ℕ). T (le y (heightOf (suc i)))) (sym e) (t .on .under);
+          }) l)
 
       apart : s .row < t .row → Falls
-      apart k = by-values (s .is) (t .is) (le-trans-float (between (t .row) y) (densityOf (t .row)) (between (s .row) x) (step-in (t .row) (t .inside) y (t .on) .at-most)
-          (le-trans-float (densityOf (t .row)) (densityOf (suc (s .row))) (between (s .row) x) (densities-fall (suc (s .row)) (t .row) k (omega (arith, t .inside))) (step-in (s .row) (s .inside) x (s .on) .at-least)))
+      apart k =
+          by-values (s .is) (t .is) (le-trans-float (between (t .row) y) (densityOf (t .row)) (between (s .row) x)
+          (step-in (t .row) (t .inside) y (t .on) .at-most)
+          (le-trans-float (densityOf (t .row)) (densityOf (suc (s .row))) (between (s .row) x)
+          (densities-fall (suc (s .row)) (t .row) k (omega (arith, t .inside))) (step-in (s .row) (s .inside) x (s .on) .at-least)))
 
-      turned : t .row < s .row → ⊥
-      turned k = against (heightOf (suc (t .row))) y (height-finite (suc (t .row)) (omega (arith, t .inside))) (on-finite (t .row) (t .inside) y (t .on))
-          (le-trans-float (heightOf (suc (t .row))) (heightOf (s .row)) y (heights-climb (suc (t .row)) (s .row) k (omega (arith, s .inside))) (le-trans-float (heightOf (s .row)) x y (s .on .over) l)) (t .under)
+      rotated : t .row < s .row → ⊥
+      rotated k = against (heightOf (suc (t .row))) y (height-finite (suc (t .row)) (omega (arith, t .inside))) (on-finite (t .row) (t .inside) y (t .on))
+          (le-trans-float (heightOf (suc (t .row))) (heightOf (s .row)) y (heights-climb (suc (t .row)) (s .row) k (omega (arith, s .inside)))
+          (le-trans-float (heightOf (s .row)) x y (s .on .over) l)) (t .under)
 
   falls-by : Foot x ⊎ (Top x ⊎ Step-of x) → Foot y ⊎ (Top y ⊎ Step-of y) → Falls
   falls-by (inl s) (inl t) = by-values (s .is) (t .is) (densities-fall 0 0 (le-refl 0) (omega arith))
   falls-by (inl s) (inr (inl t)) = by-values (s .is) (t .is) (densities-fall 0 lastRow (omega arith) (omega arith))
   falls-by (inl s) (inr (inr t)) =
       by-values (s .is) (t .is)
-      (le-trans-float (between (t .row) y) (densityOf (t .row)) (densityOf 0) (step-in (t .row) (t .inside) y (t .on) .at-most) (densities-fall 0 (t .row) zero-le (omega (arith, t .inside))))
-  falls-by (inr (inl s)) (inl t) = absurd (top-over-foot (le-trans-float (heightOf lastRow) x (heightOf 0) (s .high) (le-trans-float x y (heightOf 0) l (t .low))))
+      (le-trans-float (between (t .row) y) (densityOf (t .row)) (densityOf 0) (step-in (t .row) (t .inside) y (t .on) .at-most)
+      (densities-fall 0 (t .row) zero-le (omega (arith, t .inside))))
+  falls-by (inr (inl s)) (inl t) =
+      absurd (top-over-foot (le-trans-float (heightOf lastRow) x (heightOf 0) (s .high) (le-trans-float x y (heightOf 0) l (t .low))))
   falls-by (inr (inl s)) (inr (inl t)) = by-values (s .is) (t .is) (densities-fall lastRow lastRow (le-refl lastRow) (omega arith))
   falls-by (inr (inl s)) (inr (inr t)) =
       absurd
       (against (heightOf (suc (t .row))) y (height-finite (suc (t .row)) (omega (arith, t .inside))) (on-finite (t .row) (t .inside) y (t .on))
-      (le-trans-float (heightOf (suc (t .row))) (heightOf lastRow) y (heights-climb (suc (t .row)) lastRow (t .inside) (omega arith)) (le-trans-float (heightOf lastRow) x y (s .high) l)) (t .under))
-  falls-by (inr (inr s)) (inl t) = absurd (against x (heightOf 0) (on-finite (s .row) (s .inside) x (s .on)) (height-finite 0 (omega arith)) (le-trans-float x y (heightOf 0) l (t .low)) (s .over))
+      (le-trans-float (heightOf (suc (t .row))) (heightOf lastRow) y (heights-climb (suc (t .row)) lastRow (t .inside) (omega arith))
+      (le-trans-float (heightOf lastRow) x y (s .high) l)) (t .under))
+  falls-by (inr (inr s)) (inl t) =
+      absurd (against x (heightOf 0) (on-finite (s .row) (s .inside) x (s .on)) (height-finite 0 (omega arith))
+      (le-trans-float x y (heightOf 0) l (t .low)) (s .over))
   falls-by (inr (inr s)) (inr (inl t)) =
       by-values (s .is) (t .is)
-      (le-trans-float (densityOf lastRow) (densityOf (suc (s .row))) (between (s .row) x) (densities-fall (suc (s .row)) lastRow (s .inside) (omega arith)) (step-in (s .row) (s .inside) x (s .on) .at-least))
+      (le-trans-float (densityOf lastRow) (densityOf (suc (s .row))) (between (s .row) x)
+      (densities-fall (suc (s .row)) lastRow (s .inside) (omega arith)) (step-in (s .row) (s .inside) x (s .on) .at-least))
   falls-by (inr (inr s)) (inr (inr t)) = on-steps s t
 
 pub density-falls : (x y : Float) → T (le x y) → T (le (densityAt y) (densityAt x))
@@ -197,11 +232,15 @@ rowTests i = le (densityAt (heightOf i)) (densityOf i) ∷ le (densityOf i) (den
 pub at-row : (i : ℕ) → i < rowCount → All (rowTests i)
 at-row i l =
     all→ (rowTests i)
-    (everyBelow→ (λ (i : ℕ). allb (rowTests i)) rowCount (unfold everyBelow densityAt rowDownFrom between densityOf densities tenThousandths heightOf ofInt add sub mul div round le in tt) i l)
+    (everyBelow→ (λ (i : ℕ). allb (rowTests i)) rowCount
+    (unfold everyBelow densityAt rowDownFrom between densityOf densities tenThousandths heightOf ofInt add sub mul div round le in tt) i l)
 
-pub between-rows : (i : ℕ) (h : Float) → i < lastRow → T (le (heightOf i) h) → T (le h (heightOf (suc i))) → Within (densityOf (suc i)) (densityOf i) (densityAt h)
+pub between-rows : (i : ℕ) (h : Float) → i < lastRow → T (le (heightOf i) h) → T (le h (heightOf (suc i)))
+    → Within (densityOf (suc i)) (densityOf i) (densityAt h)
 between-rows i h l a b = record {
-  at-least = le-trans-float (densityOf (suc i)) (densityAt (heightOf (suc i))) (densityAt h) (at-row (suc i) (omega (arith, l)) .1 .0) (density-falls h (heightOf (suc i)) b);
+  at-least =
+      le-trans-float (densityOf (suc i)) (densityAt (heightOf (suc i))) (densityAt h) (at-row (suc i) (omega (arith, l)) .1 .0)
+      (density-falls h (heightOf (suc i)) b);
   at-most = le-trans-float (densityAt h) (densityAt (heightOf i)) (densityOf i) (density-falls (heightOf i) h a) (at-row i (omega (arith, l)) .0);
 }
 
@@ -214,7 +253,8 @@ in-by h (inl s) = rw (s .is) (ends-in 0 (omega arith))
 in-by h (inr (inl s)) = rw (s .is) (ends-in lastRow (omega arith))
 in-by h (inr (inr s)) =
     rw (s .is)
-    (within-wider (densityOf (suc (s .row))) (densityOf (s .row)) (densityOf lastRow) (densityOf 0) (between (s .row) h) (densities-fall (suc (s .row)) lastRow (s .inside) (omega arith))
+    (within-wider (densityOf (suc (s .row))) (densityOf (s .row)) (densityOf lastRow) (densityOf 0) (between (s .row) h)
+    (densities-fall (suc (s .row)) lastRow (s .inside) (omega arith))
     (densities-fall 0 (s .row) zero-le (omega (arith, s .inside))) (step-in (s .row) (s .inside) h (s .on)))
 
 pub density-in : (h : Float) → T (not (isNan h)) → Within (densityOf lastRow) (densityOf 0) (densityAt h)
@@ -226,18 +266,18 @@ unfolding densityAt rowDownFrom between le add sub mul div densityOf densities t
 density-nan = refl
 
 -- so the density is never a zero
-level-zero : (s : Bool) (e : ℤ) → T (le (fin s zero e) nought)
+level-zero : (s : Bool) (e : ℤ) → T (le (fin s Nat.zero e) zero)
 unfolding le
 level-zero s e = rw (zero-not-below s e, zero-is-zero s e) tt
 
-not-level : T (le (densityOf lastRow) nought) → ⊥
+not-level : T (le (densityOf lastRow) zero) → ⊥
 unfolding le densityOf densities tenThousandths round
 not-level t = t
 
 above : (v : Float) → T (le (densityOf lastRow) v) → T (nonzero v)
 above nan l = tt
 above (inf s) l = tt
-above (fin s zero e) l = not-level (le-trans-float (densityOf lastRow) (fin s zero e) nought l (level-zero s e))
+above (fin s Nat.zero e) l = not-level (le-trans-float (densityOf lastRow) (fin s Nat.zero e) zero l (level-zero s e))
 above (fin s (suc m) e) l = tt
 
 pub density-nonzero : (h : Float) → T (nonzero (densityAt h))
@@ -250,10 +290,10 @@ sea-level : rounded 1225 1000 ≡ fin false 10276045 (negsuc 22)
 unfolding round
 sea-level = refl
 
-at-zero : (s : Bool) → densityAt (flip s nought) ≡ fin false 10276045 (negsuc 22)
+at-zero : (s : Bool) → densityAt (flip s zero) ≡ fin false 10276045 (negsuc 22)
 unfolding densityAt rowDownFrom between le add sub mul div neg densityOf densities tenThousandths heightOf ofInt round
 at-zero false = refl
 at-zero true = refl
 
-pub density-at-0 : (s : Bool) → densityAt (flip s nought) ≡ rounded 1225 1000
+pub density-at-0 : (s : Bool) → densityAt (flip s zero) ≡ rounded 1225 1000
 density-at-0 s = at-zero s ∙ sym sea-level

@@ -1,4 +1,5 @@
--- What acceptance tells of a number: it lies in its limits. Said of the lag constants, 34, the servos', 39, the motors', and 56, the lift rotors', and of the exponents of thrust, 36 and 53. Assumes nothing.
+-- What acceptance tells of a number: it lies in its limits. Said of the lag constants, 34, the servos', 39, the motors', and 56,
+-- the lift rotors', and of the exponents of thrust, 36 and 53. Assumes nothing.
 use Prim.Native.Nat.{_+_, _-_, _<_, ℕ}
 use lib.Ieee.{Float, fin, nan, round}
 use lib.IntN.{pos}
@@ -15,17 +16,21 @@ use Rattle.float.specs.Notation.{one, rounded}
 use Rattle.mixers.specs.Slots.{at}
 use Rattle.ordered.proofs.Ordered.{after-none, all-pass, or-none}
 use Rattle.ordered.specs.Ordered.{after, firstFail}
-use Rattle.airframe.specs.Acceptance.{firstRefused, insideFrom, limitsAt, limitsFor, limitsTable, lowestPlace, numberInside, range, refusedPlace, segmentOutside}
-use Rattle.airframe.specs.Numbers.{baseCount, baseNumbers, baseSegment, coefficientNumbers, liftCount, liftFirst, liftNumbers, liftSegment, numbersOf, washNumbers}
+use Rattle.airframe.specs.Acceptance.{firstRefused, insideFrom, limitsAt, limitsFor, limitsTable, lowestPlace, numberInside}
+use Rattle.airframe.specs.Acceptance.{range, refusedPlace, segmentOutside}
+use Rattle.airframe.specs.Numbers.{baseCount, baseNumbers, baseSegment, coefficientNumbers, liftCount, liftFirst}
+use Rattle.airframe.specs.Numbers.{liftNumbers, liftSegment, numbersOf, washNumbers}
 use Rattle.airframe.specs.declared.Airframe.{Airframe}
 use Rattle.airframe.specs.declared.Limits.{Limits}
 use Rattle.airframe.specs.declared.numbers.Segment.{Segment}
 
 -- a segment that is there and where none is refused
-segment-pass : (limits : List Limits) (numbers : List Float) (s : Segment) → s .present ≡ true → segmentOutside limits numbers s ≡ 0 → (k : ℕ) → k < s .count → insideFrom limits numbers (s .first) k ≡ true
+segment-pass : (limits : List Limits) (numbers : List Float) (s : Segment) → s .present ≡ true → segmentOutside limits numbers s ≡ 0 → (k : ℕ)
+    → k < s .count → insideFrom limits numbers (s .first) k ≡ true
 unfolding segmentOutside
 segment-pass limits numbers s p e =
-    all-pass _ (s .count) (after-none (s .place - 1) _ (sym (ap (λ (t : Bool). cond t (after (s .place - 1) (firstFail (insideFrom limits numbers (s .first)) 0 (s .count))) 0) p) ∙ e))
+    all-pass _ (s .count) (after-none (s .place - 1) _
+    (sym (ap (λ (t : Bool). cond t (after (s .place - 1) (firstFail (insideFrom limits numbers (s .first)) 0 (s .count))) 0) p) ∙ e))
 
 -- the exponents' limits in digits, computed apart from what is said of them: where a limit is another, this is refused at once
 exponent-limits : limitsAt limitsTable 35 ≡ range (fin false 1 (pos 0)) (fin false 3 (pos 0))
@@ -61,9 +66,12 @@ module _ (a : Airframe) (e : refusedPlace a ≡ 0) where
   limits-stay (Linear n) k o = refl
   limits-stay (PitchSpeed n) k o = getD-set-other limitsTable 36 k (range (rounded 1 10) (rounded 10000 1)) (range nan nan) o
 
-  number-in : (first k : ℕ) → (first + k ≡ 36 → ⊥) → insideFrom limits (numbersOf a) first k ≡ true → Within (limitsAt limitsTable (first + k) .0) (limitsAt limitsTable (first + k) .1) (at (numbersOf a) (first + k))
+  number-in : (first k : ℕ) → (first + k ≡ 36 → ⊥) → insideFrom limits (numbersOf a) first k ≡ true
+      → Within (limitsAt limitsTable (first + k) .0) (limitsAt limitsTable (first + k) .1) (at (numbersOf a) (first + k))
   unfolding insideFrom numberInside
-  number-in first k o p = inside-within (sym (ap (λ (b : Limits). inside (b .0) (b .1) (at (numbersOf a) (first + k))) (limits-stay (a .model .«thrust_falloff») (first + k) o)) ∙ p)
+  number-in first k o p =
+      inside-within (sym (ap (λ (b : Limits). inside (b .0) (b .1) (at (numbersOf a) (first + k)))
+      (limits-stay (a .model .«thrust_falloff») (first + k) o)) ∙ p)
 
   pub servo-constant-in : Within (rounded 1 1000) (rounded 10 1) (a .model .«servo_time_constant_s»)
   unfolding limitsTable numbersOf baseNumbers coefficientNumbers

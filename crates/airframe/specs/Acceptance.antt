@@ -9,7 +9,7 @@ use mathlib.Core.List.{List, [], _∷_}
 use Rattle.fixed_wing.specs.declared.ThrustFalloff.{ThrustFalloff}
 use Rattle.fixed_wing.specs.declared.ThrustFalloff.the-variants.{Linear, PitchSpeed}
 use Rattle.float.specs.Interval.{inside}
-use Rattle.float.specs.Notation.{nought, rounded}
+use Rattle.float.specs.Notation.{zero, rounded}
 use Rattle.ordered.specs.Ordered.{after, firstFail, firstOf}
 use Rattle.mixers.specs.Slots.{at, vecAt}
 use Rattle.vector.specs.Vector.{vecInside}
@@ -34,8 +34,8 @@ limitsTable =
     range (rounded 1 100) (rounded 10 1) ∷  -- 7 chord_m
     range (neg (rounded 100 1)) (rounded 100 1) ∷  -- 8 c_lift_0
     range (neg (rounded 100 1)) (rounded 100 1) ∷  -- 9 c_lift_alpha
-    range nought (rounded 16 10) ∷  -- 10 alpha_stall_rad
-    range nought (rounded 1000 1) ∷  -- 11 stall_sharpness
+    range zero (rounded 16 10) ∷  -- 10 alpha_stall_rad
+    range zero (rounded 1000 1) ∷  -- 11 stall_sharpness
     range (neg (rounded 100 1)) (rounded 100 1) ∷  -- 12 c_drag_0
     range (rounded 1 10) (rounded 2 1) ∷  -- 13 oswald
     range (neg (rounded 100 1)) (rounded 100 1) ∷  -- 14 c_side_beta
@@ -47,10 +47,10 @@ limitsTable =
     range (neg (rounded 100 1)) (rounded 100 1) ∷  -- 20 c_roll_rudder
     range (neg (rounded 100 1)) (rounded 100 1) ∷  -- 21 c_pitch_0
     range (neg (rounded 100 1)) (rounded 100 1) ∷  -- 22 c_pitch_alpha
-    range nought (rounded 1 1) ∷  -- 23 post_stall_pitch_share
+    range zero (rounded 1 1) ∷  -- 23 post_stall_pitch_share
     range (neg (rounded 100 1)) (rounded 100 1) ∷  -- 24 c_pitch_q
     range (neg (rounded 100 1)) (rounded 100 1) ∷  -- 25 c_pitch_elevator
-    range nought (rounded 1 1) ∷  -- 26 surface_stall_share
+    range zero (rounded 1 1) ∷  -- 26 surface_stall_share
     range (neg (rounded 100 1)) (rounded 100 1) ∷  -- 27 c_yaw_beta
     range (neg (rounded 100 1)) (rounded 100 1) ∷  -- 28 c_yaw_p
     range (neg (rounded 100 1)) (rounded 100 1) ∷  -- 29 c_yaw_r
@@ -61,24 +61,24 @@ limitsTable =
     range (rounded 1 1000) (rounded 10 1) ∷  -- 34 servo_time_constant_s
     range (rounded 1 100) (rounded 10000 1) ∷  -- 35 max_thrust_n
     range (rounded 1 1) (rounded 3 1) ∷  -- 36 thrust_exponent
-    range nought (rounded 10000 1) ∷  -- 37 thrust_falloff, Linear's
+    range zero (rounded 10000 1) ∷  -- 37 thrust_falloff, Linear's
     range (neg (rounded 10 1)) (rounded 10 1) ∷  -- 38 thrust_line_below_cg_m
     range (rounded 1 1000) (rounded 10 1) ∷  -- 39 time_constant_s of the motors
-    range nought (rounded 10 1) ∷  -- 40 moment_arm_m
+    range zero (rounded 10 1) ∷  -- 40 moment_arm_m
     range (neg (rounded 10 1)) (rounded 10 1) ∷  -- 41 yaw_torque_per_thrust_m
     range (rounded 1 1000) (rounded 100 1) ∷  -- 42 disc_area_m2
-    range nought (rounded 10 1) ∷  -- 43 surface_fraction
-    range nought (rounded 10 1) ∷  -- 44 roll_fraction
+    range zero (rounded 10 1) ∷  -- 43 surface_fraction
+    range zero (rounded 10 1) ∷  -- 44 roll_fraction
     range (neg (rounded 100 1)) (rounded 100 1) ∷  -- 45 pitch_moment
     range (neg (rounded 100 1)) (rounded 100 1) ∷  -- 46 stall_pitch_moment
-    range nought (rounded 10 1) ∷  -- 47 sink_loss
-    range nought (rounded 10 1) ∷  -- 48 damping_fraction
+    range zero (rounded 10 1) ∷  -- 47 sink_loss
+    range zero (rounded 10 1) ∷  -- 48 damping_fraction
     range (rounded 1 100) (rounded 10000 1) ∷  -- 52 max_thrust_n of a lift rotor
     range (rounded 1 1) (rounded 3 1) ∷  -- 53 thrust_exponent of the lift rotors
-    range nought (rounded 10 1) ∷  -- 54 moment_arm_m of the lift rotors
+    range zero (rounded 10 1) ∷  -- 54 moment_arm_m of the lift rotors
     range (neg (rounded 10 1)) (rounded 10 1) ∷  -- 55 yaw_torque_per_thrust_m of the lift rotors
     range (rounded 1 1000) (rounded 10 1) ∷  -- 56 time_constant_s of the lift rotors
-    range nought (rounded 10 1) ∷  -- 57 drag_per_thrust_n_per_mps
+    range zero (rounded 10 1) ∷  -- 57 drag_per_thrust_n_per_mps
     []
 
 -- 37 falloff: Linear 0..10000, PitchSpeed 0.1..10000

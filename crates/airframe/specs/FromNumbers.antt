@@ -10,9 +10,9 @@ use Rattle.fixed_wing.specs.declared.AeroCoefficients.{AeroCoefficients}
 use Rattle.fixed_wing.specs.declared.FixedWingModel.{FixedWingModel}
 use Rattle.fixed_wing.specs.declared.ThrustFalloff.{ThrustFalloff}
 use Rattle.fixed_wing.specs.declared.ThrustFalloff.the-variants.{Linear, PitchSpeed}
-use Rattle.float.specs.Notation.{nought}
+use Rattle.float.specs.Notation.{zero}
 use Rattle.mixers.specs.Slots.{at}
-use Rattle.motors.specs.Motor.{undriven}
+use Rattle.motors.specs.Motor.{emptyGroup}
 use Rattle.motors.specs.declared.MotorGroup.{MotorGroup}
 use Rattle.motors.specs.declared.MotorLayout.{MotorLayout}
 use Rattle.tailsitter_model.specs.declared.PropWash.{PropWash}
@@ -133,5 +133,5 @@ airframeOf xs kind wash lift motors weights rotors = record {
 -- the zero airframe, which a refused read gives: all numbers 0, Linear, wash and lift numbers absent, no slot marked
 unfoldable pub zeroAirframe : Airframe
 zeroAirframe =
-    airframeOf zeroNumbers 0 false false (undriven (motorLayoutOf zeroNumbers) nought) (replicate 8 zeroVec)
-    (undriven (liftLayoutOf zeroNumbers) nought)
+    airframeOf zeroNumbers 0 false false (emptyGroup (motorLayoutOf zeroNumbers) zero) (replicate 8 zeroVec)
+    (emptyGroup (liftLayoutOf zeroNumbers) zero)

@@ -8,7 +8,7 @@ use Rattle.fixed_wing.specs.declared.AeroCoefficients.{AeroCoefficients}
 use Rattle.fixed_wing.specs.declared.FixedWingModel.{FixedWingModel}
 use Rattle.fixed_wing.specs.declared.ThrustFalloff.{ThrustFalloff}
 use Rattle.fixed_wing.specs.declared.ThrustFalloff.the-variants.{Linear, PitchSpeed}
-use Rattle.float.specs.Notation.{nought}
+use Rattle.float.specs.Notation.{zero}
 use Rattle.motors.specs.declared.MotorGroup.{MotorGroup}
 use Rattle.quadplane_model.specs.declared.LiftRotors.{LiftRotors}
 use Rattle.tailsitter_model.specs.declared.PropWash.{PropWash}
@@ -89,4 +89,4 @@ numbersOf a = baseNumbers (a .model) (a .motors) (washNumbers (a .wash) (liftNum
 
 -- numbers that are all 0
 abbrev pub zeroNumbers : List Float
-zeroNumbers = replicate numbersCount nought
+zeroNumbers = replicate numbersCount zero

@@ -1,4 +1,4 @@
--- The reflection of an airframe (01, "Reflection negates"; 02, 5): both groups' torques and the weights turn in roll and yaw; all
+-- The reflection of an airframe (01, "Reflection negates"; 02, 5): both groups' torques and the weights are negated in roll and yaw; all
 -- else stays. And what it is for one airframe to be the other's reflection as numbers. Definitions only.
 use mathlib.Core.Path.{_≡_}
 use Rattle.mixers.specs.Reflection.{AxesRel, reflectAxes}

@@ -287,8 +287,8 @@ impl Airframe {
         ensures { λ r. ⌜ r ≡ FromNumbers.zeroAirframe ⌝ }
     {
         let xs = [0.0; NUMBERS];
-        let motors = MotorGroup::undriven(motor_layout_of(xs), 0.0);
-        let rotors = MotorGroup::undriven(lift_layout_of(xs), 0.0);
+        let motors = MotorGroup::empty(motor_layout_of(xs), 0.0);
+        let rotors = MotorGroup::empty(lift_layout_of(xs), 0.0);
         let weights = [Vec3::zeros(); 8];
         Airframe::from_numbers(xs, 0, false, false, motors, weights, rotors)
     }

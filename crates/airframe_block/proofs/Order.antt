@@ -8,7 +8,8 @@ use Rattle.airframe.specs.declared.Airframe.{Airframe}
 use Rattle.answers.specs.declared.Answer.{Answer}
 use Rattle.answers.specs.declared.Answer.the-variants.{NumberOutOfRange, ReservedBit, WrongLength}
 use Rattle.float.specs.Bytes.{byteAt}
-use Rattle.airframe_block.specs.Block.{acceptedAirframe, announcedBy, headerOf, readAirframeOf, readAs, readBody, readBy, readRows, refusedAirframe, reservedRow, rowsAt, rowsFrom, testedAirframe}
+use Rattle.airframe_block.specs.Block.{acceptedAirframe, announcedBy, headerOf, readAirframeOf, readAs, readBody, readBy}
+use Rattle.airframe_block.specs.Block.{readRows, refusedAirframe, reservedRow, rowsAt, rowsFrom, testedAirframe}
 use Rattle.airframe_block.specs.declared.AirframeRead.{AirframeRead}
 use Rattle.airframe_block.specs.declared.Announced.{Announced}
 use Rattle.airframe_block.specs.declared.Announced.the-variants.{Bytes, Refused}

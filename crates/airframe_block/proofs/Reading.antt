@@ -1,4 +1,5 @@
--- What reading an airframe block can give (01, "What the bench replies"): a refusal, with the airframe of zeros, or an accepted airframe. And where no wash is read, its numbers are 0,
+-- What reading an airframe block can give (01, "What the bench replies"): a refusal, with the airframe of zeros, or an accepted
+-- airframe. And where no wash is read, its numbers are 0,
 -- and so are the lift rotors' where none are. Assumes nothing.
 use Prim.Native.Nat.{ℕ}
 use borrow.Author.Tests.{eqb-true}
@@ -18,10 +19,13 @@ use Rattle.answers.specs.declared.Answer.{Answer}
 use Rattle.answers.specs.declared.Answer.the-variants.{Done, NumberOutOfRange, ReservedBit, TooManyRows, WrongFalloff, WrongLength, WrongVersion}
 use Rattle.float.proofs.Tests.{either}
 use Rattle.float.specs.Bytes.{byteAt}
-use Rattle.float.specs.Notation.{nought}
+use Rattle.float.specs.Notation.{zero}
 use Rattle.mixers.specs.Rows.{mostRows}
 use Rattle.mixers.specs.declared.Rows.{Rows}
-use Rattle.airframe_block.specs.Block.{acceptedAirframe, airframeBy, announcedBy, badRow, bytesOf, headerOf, numbersFrom, placedAirframe, putNumbers, putSegment, putSegments, readAirframeOf, readAs, readBody, readBy, readRows, refusedAirframe, reservedRow, rowsAt, rowsFrom, segmentsOf, testedAirframe}
+use Rattle.airframe_block.specs.Block.{acceptedAirframe, airframeBy, announcedBy, badRow, bytesOf, headerOf, numbersFrom}
+use Rattle.airframe_block.specs.Block.{testedBlock, putNumbers, putSegment, putSegments, readAirframeOf, readAs, readBody}
+use Rattle.airframe_block.specs.Block.{readBy, readRows, refusedAirframe, reservedRow, rowsAt, rowsFrom, segmentsOf}
+use Rattle.airframe_block.specs.Block.{testedAirframe}
 use Rattle.airframe_block.specs.declared.AirframeRead.{AirframeRead}
 use Rattle.airframe_block.specs.declared.Announced.{Announced}
 use Rattle.airframe_block.specs.declared.Announced.the-variants.{Bytes, Refused}
@@ -43,9 +47,9 @@ tested-outcome a p h = go (eqb p 0) refl
     go true e = acceptance a (h (eqb-true p 0 e))
     go false e = refusal (NumberOutOfRange p) (no-reply p)
 
-placed-outcome : (a : Airframe) (rows : Rows) → Outcome (placedAirframe a rows)
-unfolding placedAirframe
-placed-outcome a rows = tested-outcome a (lowestPlace (eqb (badRow rows) 0) a) (rows-apart a (eqb (badRow rows) 0))
+tested-block-outcome : (a : Airframe) (rows : Rows) → Outcome (testedBlock a rows)
+unfolding testedBlock
+tested-block-outcome a rows = tested-outcome a (lowestPlace (eqb (badRow rows) 0) a) (rows-apart a (eqb (badRow rows) 0))
 
 not-length : WrongLength ≡ Done → ⊥
 not-length q = let z : _≡_ {A = ℕ} 0 1 = cc in omega arith
@@ -65,11 +69,13 @@ not-rows q = let z : _≡_ {A = ℕ} 0 1 = cc in omega arith
 -- the tests from each on
 rows-outcome : (s : List ℕ) (h : Header) (rows : Rows) → Outcome (readRows s h rows)
 unfolding readRows
-rows-outcome s h rows = placed-outcome (airframeBy (numbersFrom s h) h rows) rows
+rows-outcome s h rows = tested-block-outcome (airframeBy (numbersFrom s h) h rows) rows
 
 body-outcome : (s : List ℕ) (h : Header) → Outcome (readBody s h)
 unfolding readBody
-body-outcome s h = either Outcome (eqb (reservedRow s (h .lift) (rowsAt h) (h .rows)) 0) (rows-outcome s h (rowsFrom s (rowsAt h) (h .rows))) (refusal ReservedBit not-reserved)
+body-outcome s h =
+    either Outcome (eqb (reservedRow s (h .lift) (rowsAt h) (h .rows)) 0) (rows-outcome s h (rowsFrom s (rowsAt h) (h .rows)))
+    (refusal ReservedBit not-reserved)
 
 said-outcome : (h : Header) (n : ℕ) (s : List ℕ) → Outcome (readAs s h (Bytes n))
 unfolding readAs
@@ -122,8 +128,8 @@ absent-wash s h e = go (h .lift) refl
 -- and so are those of lift rotors that are not there (02, 5)
 pub record LiftAbsent (xs : List Float) : Type 0 where
   pub layout : liftLayoutOf xs ≡ liftLayoutOf zeroNumbers
-  pub constant : liftConstant xs ≡ nought
-  pub drag : liftDrag xs ≡ nought
+  pub constant : liftConstant xs ≡ zero
+  pub drag : liftDrag xs ≡ zero
 
 pub absent-lift : (s : List ℕ) (h : Header) → h .lift ≡ false → LiftAbsent (numbersFrom s h)
 unfolding liftLayoutOf numbersFrom segmentsOf putSegments putSegment putNumbers

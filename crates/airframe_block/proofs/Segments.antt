@@ -1,4 +1,4 @@
--- The parts of a block: how many numbers a segment has, where the next one begins, and one turn of the loops that read numbers and rows. Assumes nothing.
+-- The parts of a block: how many numbers a segment has, where the next one begins, and one iteration of the loops that read numbers and rows. Assumes nothing.
 use Prim.Native.Nat.{_*_, _+_, _≤_, ℕ}
 use lib.Ieee.{Float}
 use lib.ListN.{set}
@@ -11,7 +11,8 @@ use Rattle.airframe.specs.Numbers.{baseCount, baseSegment, liftCount, liftSegme
 use Rattle.airframe.specs.declared.numbers.Segment.{Segment}
 use Rattle.mixers.specs.declared.MixRow.{MixRow}
 use Rattle.block_parts.specs.Parts.{floatAt, numberBytes}
-use Rattle.airframe_block.specs.Block.{bytesOf, headerBytes, mostBytes, putNumbers, putRows, rowBytes, rowFrom, rowsAt, segmentBytes, segmentsEnd, segmentsOf}
+use Rattle.airframe_block.specs.Block.{bytesOf, headerBytes, mostBytes, putNumbers, putRows, rowBytes, rowFrom, rowsAt}
+use Rattle.airframe_block.specs.Block.{segmentBytes, segmentsEnd, segmentsOf}
 use Rattle.airframe_block.specs.declared.Header.{Header}
 
 -- what reading asks of a segment

@@ -27,7 +27,9 @@ unfolding announcedBy
 announced-bytes h n e = go (not (eqb (h .version) 1)) (ltb 1 (h .kind)) (not (eqb (h .reserved) 0)) (ltb mostRows (h .rows)) refl e
   where
     said : Bool → Bool → Bool → Bool → Announced
-    said p q r t = cond p (Refused WrongVersion) (cond q (Refused WrongFalloff) (cond r (Refused ReservedBit) (cond t (Refused TooManyRows) (Bytes (bytesOf h)))))
+    said p q r t =
+        cond p (Refused WrongVersion) (cond q (Refused WrongFalloff)
+        (cond r (Refused ReservedBit) (cond t (Refused TooManyRows) (Bytes (bytesOf h)))))
 
     go : (p q r t : Bool) → ltb mostRows (h .rows) ≡ t → said p q r t ≡ Bytes n → (n ≡ bytesOf h) × (h .rows ≤ mostRows)
     go true q r t l e = absurd (not-refused WrongVersion n e)

@@ -1,6 +1,7 @@
 -- The airframe block (01, "Blocks", "Airframe"; 02, 5): what its bits and bytes say, and what reading it gives. A block's bytes are a
 -- list of numbers below 256. Definitions only.
-use Prim.Native.Nat.{_%_, _*_, _+_, _/_, suc, zero, ℕ}
+use Prim.Native.Nat as Nat
+use Prim.Native.Nat.{_%_, _*_, _+_, _/_, suc, ℕ}
 use lib.Dec.{eqb, ltb}
 use lib.Ieee.{Float, eq}
 use lib.ListN.{getD, length, replicate, set}
@@ -16,7 +17,7 @@ use Rattle.answers.specs.declared.Answer.the-variants.{Done, NumberOutOfRange, 
 use Rattle.answers.specs.declared.Answer.the-variants.{TooManyRows, WrongFalloff, WrongLength, WrongVersion}
 use Rattle.float.specs.Bytes.{byteAt}
 use Rattle.float.specs.Interval.{inside}
-use Rattle.float.specs.Notation.{nought, rounded, sizeOf}
+use Rattle.float.specs.Notation.{zero, rounded, abs}
 use Rattle.ordered.specs.Ordered.{firstFail}
 use Rattle.mixers.specs.Rows.{liveOf, mostRows, noRow}
 use Rattle.mixers.specs.declared.MixRow.{MixRow}
@@ -89,7 +90,7 @@ announcedOf a b = announcedBy (headerOf a b)
 
 -- the first n numbers of a segment, those from byte i of the block on to the indexes from j on
 unfoldable pub putNumbers : List ℕ → ℕ → List Float → ℕ → ℕ → List Float
-putNumbers s i xs j zero = xs
+putNumbers s i xs j Nat.zero = xs
 putNumbers s i xs j (suc n) = set (putNumbers s i xs j n) (j + n) (floatAt s (i + numberBytes * n))
 
 unfoldable pub putSegment : List ℕ → ℕ → List Float → Segment → List Float
@@ -117,12 +118,12 @@ rowFrom s i = record { slot = slotOf (byteAt s i); roll = floatAt s (i + 1); pit
 
 -- the first n of the rows whose bytes begin at `start`, put into an array one after the other
 unfoldable pub putRows : List ℕ → ℕ → List MixRow → ℕ → List MixRow
-putRows s start rows zero = rows
+putRows s start rows Nat.zero = rows
 putRows s start rows (suc n) = set (putRows s start rows n) n (rowFrom s (start + rowBytes * n))
 
 -- an array of empty rows to put them into
 abbrev pub emptyRow : MixRow
-emptyRow = record { slot = Motor 0; roll = nought; pitch = nought; yaw = nought }
+emptyRow = record { slot = Motor 0; roll = zero; pitch = zero; yaw = zero }
 
 unfoldable pub rowsFrom : List ℕ → ℕ → ℕ → Rows
 rowsFrom s start count = record { rows = putRows s start (replicate mostRows emptyRow) count; count = count }
@@ -141,7 +142,7 @@ reservedRow s lift start count = firstFail (rowClear s lift start) 0 count
 -- ---- place 49 (01, "Airframe numbers by place"): a factor is 0 or of a size from 0.01 to 10; every row is tested, also one that a
 -- later row of its slot overwrites
 unfoldable pub factorFits : Float → Bool
-factorFits x = cond (eq x nought) true (inside (rounded 1 100) (rounded 10 1) (sizeOf x))
+factorFits x = cond (eq x zero) true (inside (rounded 1 100) (rounded 10 1) (abs x))
 
 unfoldable pub rowFits : MixRow → Bool
 rowFits r = cond (factorFits (r .roll)) (cond (factorFits (r .pitch)) (factorFits (r .yaw)) false) false
@@ -172,11 +173,11 @@ acceptedAirframe a = record { answer = Done; airframe = a }
 unfoldable pub testedAirframe : Airframe → ℕ → AirframeRead
 testedAirframe a p = cond (eqb p 0) (acceptedAirframe a) (refusedAirframe (NumberOutOfRange p))
 
-unfoldable pub placedAirframe : Airframe → Rows → AirframeRead
-placedAirframe a rows = testedAirframe a (lowestPlace (eqb (badRow rows) 0) a)
+unfoldable pub testedBlock : Airframe → Rows → AirframeRead
+testedBlock a rows = testedAirframe a (lowestPlace (eqb (badRow rows) 0) a)
 
 unfoldable pub readRows : List ℕ → Header → Rows → AirframeRead
-readRows s h rows = placedAirframe (airframeBy (numbersFrom s h) h rows) rows
+readRows s h rows = testedBlock (airframeBy (numbersFrom s h) h rows) rows
 
 -- a reserved bit in the rows (4), then the numbers
 unfoldable pub readBody : List ℕ → Header → AirframeRead

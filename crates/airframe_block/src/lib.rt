@@ -264,7 +264,7 @@ fn factor_fits(x: f32) -> bool
     if x == 0.0 {
         return true;
     }
-    float::inside(float::size(x), 0.01, 10.0)
+    float::inside(float::abs(x), 0.01, 10.0)
 }
 
 fn row_fits(row: MixRow) -> bool
@@ -299,7 +299,7 @@ fn bad_row(rows: Rows) -> usize
 fn airframe_by(xs: [f32; NUMBERS], h: Header, rows: Rows) -> Airframe
     ensures { λ r. ⌜ r ≡ Block.airframeBy xs h rows ⌝ }
 {
-    let mix = lent_rows::mixed(
+    let mix = lent_rows::fill_from_rows(
         rows,
         airframe::motor_layout_of(xs),
         xs[MOTOR_TIME_CONSTANT],
@@ -322,8 +322,8 @@ fn refused(answer: Answer) -> AirframeRead
 }
 
 // The airframe, refused where a number is out of range.
-fn placed(airframe: Airframe, rows: Rows) -> AirframeRead
-    ensures { λ r. ⌜ r ≡ Block.placedAirframe airframe rows ⌝ }
+fn tested(airframe: Airframe, rows: Rows) -> AirframeRead
+    ensures { λ r. ⌜ r ≡ Block.testedBlock airframe rows ⌝ }
 {
     let p = airframe.lowest_place(bad_row(rows) == 0);
     if p != 0 {
@@ -347,7 +347,7 @@ fn read_body(s: &[u8], h: Header) -> AirframeRead
     }
     let rows = read_rows(s, start, count);
     let xs = read_numbers(s, h);
-    placed(airframe_by(xs, h, rows), rows)
+    tested(airframe_by(xs, h, rows), rows)
 }
 
 // The airframe block `s`.

@@ -1,3 +1,3 @@
 -- Laws of rows.
 pub mod RoundTrip
-pub mod Places
+pub mod Numbers

@@ -23,14 +23,15 @@ use Rattle.motors.specs.declared.MotorGroup.{MotorGroup}
 use Rattle.vector.specs.Vector.{vec}
 use Rattle.vector.specs.declared.Vec3.{Vec3}
 use Rattle.arrays.specs.Airframe.{airframeIn, airframeNumber, airframeNumbers, airframeWith, axisOf, flagNumber, flagsIn}
-use Rattle.arrays.specs.Airframe.{groupIn, isSet, kindNumber, kindOf, liftNumber, placeAt, placesIn, vecsIn, vecsNumber}
+use Rattle.arrays.specs.Airframe.{groupIn, isSet, kindNumber, kindOf, liftNumber, numberAt, numbersIn, vecsIn, vecsNumber}
 use Rattle.arrays.specs.Flight.{flightNumbers, flightIn, quatIn, slotsIn, tickIn, tickNumbers, vecIn}
 
 -- a list of 8 by its elements
 slots-again : {X : Type 0} (d : X) (xs : List X) → length xs ≡ 8 → slots (λ (k : ℕ). getD xs k d) ≡ xs
 slots-again d xs e = map-slots d (λ x. x) xs e ∙ map-id xs
 
-pub flight-again : (f : Flight) → length (f .motors) ≡ 8 → length (f .servos) ≡ 8 → length (f .«thrust_scale») ≡ 8 → length (f .«lift_motors») ≡ 8 → flightIn (flightNumbers f) ≡ f
+pub flight-again : (f : Flight) → length (f .motors) ≡ 8 → length (f .servos) ≡ 8 → length (f .«thrust_scale») ≡ 8 → length (f .«lift_motors») ≡ 8
+    → flightIn (flightNumbers f) ≡ f
 unfolding flightIn flightNumbers vecIn quatIn slotsIn
 flight-again f m s c l = λ i. record {
   «north_m» = f .«north_m»;
@@ -85,7 +86,8 @@ pub airframe-again : (a : Airframe)
     → length (a .lift .motors .used) ≡ 8
     → length (a .lift .motors .«torque_per_thrust_m») ≡ 8
     → airframeIn (airframeNumbers a) ≡ a
-unfolding airframeIn airframeWith groupIn airframeNumbers airframeNumber liftNumber listOf listFrom placesIn placeAt motorLayoutOf liftLayoutOf numbersOf baseNumbers coefficientNumbers washNumbers liftNumbers flagsIn vecsIn vecIn vecsNumber axisOf
+unfolding airframeIn airframeWith groupIn airframeNumbers airframeNumber liftNumber listOf listFrom numbersIn numberAt motorLayoutOf
+    liftLayoutOf numbersOf baseNumbers coefficientNumbers washNumbers liftNumbers flagsIn vecsIn vecIn vecsNumber axisOf
 airframe-again a u t w u' t' = parts ∙ of-numbers a kind (falloff-again (a .model .«thrust_falloff»))
   where
     kind : ℕ

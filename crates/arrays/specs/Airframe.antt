@@ -14,7 +14,7 @@ use Rattle.float.specs.Lists.{listOf}
 use Rattle.mixers.specs.Slots.{at, flagAt, slots, vecAt as slotVec}
 use Rattle.fixed_wing.specs.declared.ThrustFalloff.{ThrustFalloff}
 use Rattle.fixed_wing.specs.declared.ThrustFalloff.the-variants.{Linear, PitchSpeed}
-use Rattle.float.specs.Notation.{nought, one}
+use Rattle.float.specs.Notation.{zero, one}
 use Rattle.motors.specs.declared.MotorGroup.{MotorGroup}
 use Rattle.motors.specs.declared.MotorLayout.{MotorLayout}
 use Rattle.vector.specs.declared.Vec3.{Vec3}
@@ -55,17 +55,17 @@ airframeNumbersCount = liftTorquesAt + 3 * 8
 
 -- 0 for either zero, else 1 (a NaN too)
 unfoldable pub kindOf : Float → ℕ
-kindOf x = cond (eq x nought) 0 1
+kindOf x = cond (eq x zero) 0 1
 
 unfoldable pub isSet : Float → Bool
-isSet x = not (eq x nought)
+isSet x = not (eq x zero)
 
 -- where number k of those by place stands
-unfoldable pub placeAt : ℕ → ℕ
-placeAt k = cond (ltb k liftFirst) k (liftNumbersAt + (k - liftFirst))
+unfoldable pub numberAt : ℕ → ℕ
+numberAt k = cond (ltb k liftFirst) k (liftNumbersAt + (k - liftFirst))
 
-unfoldable pub placesIn : List Float → List Float
-placesIn xs = listOf (λ (k : ℕ). at xs (placeAt k)) numbersCount
+unfoldable pub numbersIn : List Float → List Float
+numbersIn xs = listOf (λ (k : ℕ). at xs (numberAt k)) numbersCount
 
 unfoldable pub vecsIn : List Float → ℕ → List Vec3
 vecsIn xs i = slots (λ (k : ℕ). vecIn xs (i + 3 * k))
@@ -91,16 +91,16 @@ airframeWith xs ps =
     (groupIn xs (liftLayoutOf ps) (liftConstant ps) liftUsedAt)
 
 unfoldable pub airframeIn : List Float → Airframe
-airframeIn xs = airframeWith xs (placesIn xs)
+airframeIn xs = airframeWith xs (numbersIn xs)
 
 -- ---- to an array
 
 abbrev pub kindNumber : ThrustFalloff → Float
-kindNumber (Linear n) = nought
+kindNumber (Linear n) = zero
 kindNumber (PitchSpeed n) = one
 
 unfoldable pub flagNumber : Bool → Float
-flagNumber b = cond b one nought
+flagNumber b = cond b one zero
 
 -- roll, pitch or yaw
 unfoldable pub axisOf : Vec3 → ℕ → Float

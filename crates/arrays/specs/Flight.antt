@@ -41,7 +41,8 @@ flightIn xs =
       attitude = quatIn xs (attitudeAt / numberBytes);
       «angular_velocity_radps» = vecIn xs (ratesAt / numberBytes);
     } in
-    flightOf body (slotsIn xs (motorsAt / numberBytes)) (slotsIn xs (servosAt / numberBytes)) (slotsIn xs (scalesAt / numberBytes)) (slotsIn xs (liftAt / numberBytes))
+    flightOf body (slotsIn xs (motorsAt / numberBytes)) (slotsIn xs (servosAt / numberBytes)) (slotsIn xs (scalesAt / numberBytes))
+    (slotsIn xs (liftAt / numberBytes))
 
 -- the tick of an array
 unfoldable pub tickIn : List Float → Tick

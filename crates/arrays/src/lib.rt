@@ -287,21 +287,21 @@ fn is_set(x: f32) -> bool
 }
 
 // The numbers by place, the lift rotors' last.
-fn places_in(xs: &[f32]) -> [f32; NUMBERS]
+fn numbers_in(xs: &[f32]) -> [f32; NUMBERS]
     requires { do ⌜ AirframeArray.airframeNumbersCount ≤ (← ⟦xs.len()⟧) ⌝ }
-    ensures { λ r. ⌜ r ≡ AirframeArray.placesIn (now (xs .entry)) ⌝ }
+    ensures { λ r. ⌜ r ≡ AirframeArray.numbersIn (now (xs .entry)) ⌝ }
 {
-    let mut places = [0.0; NUMBERS];
+    let mut numbers = [0.0; NUMBERS];
     let mut k = 0usize;
     while k < airframe::LIFT_FIRST {
-        places[k] = xs[k];
+        numbers[k] = xs[k];
         k += 1;
     }
     while k < NUMBERS {
-        places[k] = xs[LIFT_NUMBERS_AT + (k - airframe::LIFT_FIRST)];
+        numbers[k] = xs[LIFT_NUMBERS_AT + (k - airframe::LIFT_FIRST)];
         k += 1;
     }
-    places
+    numbers
 }
 
 // The marks of a group that stand at `at`.
@@ -352,22 +352,22 @@ pub fn airframe_in(xs: &[f32]) -> Airframe
     requires { do ⌜ AirframeArray.airframeNumbersCount ≤ (← ⟦xs.len()⟧) ⌝ }
     ensures { λ r. ⌜ r ≡ AirframeArray.airframeIn (now (xs .entry)) ⌝ }
 {
-    let places = places_in(xs);
+    let numbers = numbers_in(xs);
     let kind = kind_of(xs[KIND_AT]);
     let wash_present = is_set(xs[WASH_AT]);
     let lift_present = is_set(xs[LIFT_PRESENT_AT]);
-    let layout = airframe::motor_layout_of(places);
-    let motors = group_in(xs, layout, places[airframe::MOTOR_TIME_CONSTANT], USED_AT);
+    let layout = airframe::motor_layout_of(numbers);
+    let motors = group_in(xs, layout, numbers[airframe::MOTOR_TIME_CONSTANT], USED_AT);
     let weights = vecs_in(xs, WEIGHTS_AT);
-    let lift_layout = airframe::lift_layout_of(places);
+    let lift_layout = airframe::lift_layout_of(numbers);
     let rotors = group_in(
         xs,
         lift_layout,
-        places[airframe::LIFT_TIME_CONSTANT],
+        numbers[airframe::LIFT_TIME_CONSTANT],
         LIFT_USED_AT,
     );
     Airframe::from_numbers(
-        places,
+        numbers,
         kind,
         wash_present,
         lift_present,
@@ -382,7 +382,7 @@ pub fn refused_place(xs: &[f32]) -> u32
     requires { do ⌜ AirframeArray.airframeNumbersCount ≤ (← ⟦xs.len()⟧) ⌝ }
     ensures { λ r. ⌜ r ≡ refusedPlace (AirframeArray.airframeIn (now (xs .entry))) ⌝ }
 {
-    let places = places_in(xs);
+    let numbers = numbers_in(xs);
     let falloff = airframe::falloff_of(kind_of(xs[KIND_AT]), xs[airframe::FALLOFF]);
     let wash_present = is_set(xs[WASH_AT]);
     let torques = vecs_in(xs, TORQUES_AT);
@@ -390,7 +390,7 @@ pub fn refused_place(xs: &[f32]) -> u32
     let lift_present = is_set(xs[LIFT_PRESENT_AT]);
     let lift_torque = lift_torques_outside(xs, lift_present);
     airframe::first_refused(
-        &places,
+        &numbers,
         falloff,
         wash_present,
         true,
@@ -458,12 +458,12 @@ fn vecs_number(vecs: [Vec3; 8], k: usize) -> f32
 }
 
 // Number k of those by place.
-fn place_number(a: Airframe, k: usize) -> f32
+fn number_in(a: Airframe, k: usize) -> f32
     requires { ⌜ k < numbersCount ⌝ }
     ensures { λ r. ⌜ r ≡ at (numbersOf a) k ⌝ }
 {
-    let places = a.numbers();
-    places[k]
+    let numbers = a.numbers();
+    numbers[k]
 }
 
 // Whether motor k of a group is used, as a number.
@@ -484,7 +484,7 @@ fn lift_number(a: Airframe, k: usize) -> f32
     let group = lift.motors;
     let torques = group.torque_per_thrust_m;
     if k < LIFT_PRESENT_AT {
-        return place_number(a, airframe::LIFT_FIRST + (k - LIFT_NUMBERS_AT));
+        return number_in(a, airframe::LIFT_FIRST + (k - LIFT_NUMBERS_AT));
     }
     if k < LIFT_USED_AT {
         return flag_number(a.lift_present);
@@ -506,7 +506,7 @@ fn airframe_number(a: Airframe, k: usize) -> f32
     let torques = group.torque_per_thrust_m;
     let weights = a.weights;
     if k < KIND_AT {
-        return place_number(a, k);
+        return number_in(a, k);
     }
     if k < WASH_AT {
         return kind_number(falloff);

@@ -28,13 +28,14 @@ use Rattle.run.specs.Calls.{Chain}
 use Rattle.run.specs.Mirrored.{ByDefinition}
 use Rattle.run.specs.Run.{toldBy}
 use Rattle.surfaces.specs.Surface.{moveTo}
-use Rattle.wing.proofs.Passed.{of-tick}
+use Rattle.wing.proofs.Passed.{tick-cases}
 use Rattle.wing.specs.Tick.{liftSpun, liftedOf, movedOf, nextOf, nextWith, refusedOf, spunOf, steppedOf, tickOf}
-use Rattle.wing.specs.declared.Ticked.{Ticked}
-use Rattle.bench_c.specs.Library.{ArrayCall, TickOutcome, replyOf, reportNumbers, stateAfterTick, tested, tick, tickLengths, tickPrepared, tickedBy, toldIn}
+use Rattle.wing.specs.declared.TickResult.{TickResult}
+use Rattle.bench_c.specs.Library.{ArrayCall, TickOutcome, replyOf, reportNumbers, stateAfterTick, tested, tick, tickLengths}
+use Rattle.bench_c.specs.Library.{tickPrepared, tickedBy, toldIn}
 
 -- ---- what a tick leaves in the array is the state it hands back
-abbrev Left : List Float → Ticked → Type 0
+abbrev Left : List Float → TickResult → Type 0
 Left state k = flightIn (stateAfterTick state k) ≡ k .flight
 
 refused-left : (state : List Float) (x : Answer) → isDone x ≡ false → Left state (refusedOf x (flightIn state))
@@ -46,7 +47,8 @@ lifted-eight : (a : Airframe) (f : Flight) (t : Tick) → length (f .«lift_moto
 unfolding liftedOf liftSpun rotorsSpun spinOf
 lifted-eight a f t e = either (λ (xs : List Float). length xs ≡ 8) (a .«lift_present») refl e
 
-next-left : (a : Airframe) (state : List Float) (f : Flight) (t : Tick) → length (f .«thrust_scale») ≡ 8 → length (f .«lift_motors») ≡ 8 → Left state (nextOf a f t)
+next-left : (a : Airframe) (state : List Float) (f : Flight) (t : Tick) → length (f .«thrust_scale») ≡ 8 → length (f .«lift_motors») ≡ 8
+    → Left state (nextOf a f t)
 unfolding stateAfterTick nextWith steppedOf spunOf movedOf spinOf moveTo
 next-left a state f t e l = flight-again _ refl refl e (lifted-eight a f t l)
 
@@ -59,7 +61,9 @@ unfolding flightIn slotsIn
 rotors-are-eight state = refl
 
 tick-left : (a : Airframe) (state : List Float) (t : Tick) → Left state (tickOf a (flightIn state) t)
-tick-left a state t = of-tick (Left state) a (flightIn state) t (λ x n. refused-left state x (some-eqb (numberOf x) n)) (λ p. next-left a state (flightIn state) t (scales-are-eight state) (rotors-are-eight state))
+tick-left a state t =
+    tick-cases (Left state) a (flightIn state) t (λ x n. refused-left state x (some-eqb (numberOf x) n))
+    (λ p. next-left a state (flightIn state) t (scales-are-eight state) (rotors-are-eight state))
 
 -- ---- what a reply tells
 reply-number : (x : Answer) → replyOf x % 16 ≡ numberOf x
@@ -89,17 +93,23 @@ tested-tells a state t = let k = tickOf a (flightIn state) t in λ i. record {
 
 -- ---- one call that ticks with the airframe a, whatever form it has
 abbrev TicksWith : Airframe → (List Float → List Float → List Float → TickOutcome) → Type 0
-TicksWith a call = (state t report : List Float) → tickLengths (length state) (length t) (length report) ≡ true → call state t report ≡ tested state (tickOf a (flightIn state) (tickIn t))
+TicksWith a call =
+    (state t report : List Float) → tickLengths (length state) (length t) (length report) ≡ true
+    → call state t report ≡ tested state (tickOf a (flightIn state) (tickIn t))
 
 one-call : (a : Airframe) (call : List Float → List Float → List Float → TickOutcome) → TicksWith a call
     → (state t : List Float) (o : TickOutcome) (after : List Float) → ArrayCall call state t o after → OneCall a flightIn tickIn toldIn state t o after
 one-call a call h state t o after c =
     let e : o ≡ tested state (tickOf a (flightIn state) (tickIn t)) = c .answered ∙ h state t (c .report) (c .fit) in
-    record { told = ap toldIn e ∙ tested-tells a state (tickIn t); left = ap flightIn (c .left) ∙ ap (λ (x : TickOutcome). flightIn (x .state)) e ∙ tick-left a state (tickIn t) }
+    record {
+      told = ap toldIn e ∙ tested-tells a state (tickIn t);
+      left = ap flightIn (c .left) ∙ ap (λ (x : TickOutcome). flightIn (x .state)) e ∙ tick-left a state (tickIn t);
+    }
 
 -- ---- a chain of them is a flight by demand 2's definition
 array-flown : (a : Airframe) (call : List Float → List Float → List Float → TickOutcome) → TicksWith a call
-    → {state after : List Float} {ts : List (List Float)} {os : List TickOutcome} → Chain (ArrayCall call) state ts os after → ByDefinition a (flightIn state) (map tickIn ts) (map toldIn os) (flightIn after)
+    → {state after : List Float} {ts : List (List Float)} {os : List TickOutcome} → Chain (ArrayCall call) state ts os after
+    → ByDefinition a (flightIn state) (map tickIn ts) (map toldIn os) (flightIn after)
 array-flown a call h r = chain-flown a flightIn tickIn toldIn (ArrayCall call) (one-call a call h) r
 
 -- with the airframe as a block that is accepted, and as its array

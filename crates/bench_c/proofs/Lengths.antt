@@ -25,8 +25,13 @@ second false false e = e
 pub arrays-fit : (s t r : ℕ) → tickLengths s t r ≡ true → (s ≡ stateNumbersCount) × ((t ≡ tickNumbersCount) × (r ≡ reportNumbersCount))
 unfolding tickLengths
 arrays-fit s t r e =
-    let f = first (eqb s stateNumbersCount && eqb t tickNumbersCount) (eqb r reportNumbersCount) e in
-    (eqb-true s stateNumbersCount (first (eqb s stateNumbersCount) _ f), (eqb-true t tickNumbersCount (second (eqb s stateNumbersCount) _ f), eqb-true r reportNumbersCount (second (eqb s stateNumbersCount && eqb t tickNumbersCount) _ e)))
+    let f = first (eqb s stateNumbersCount && eqb t tickNumbersCount) (eqb r reportNumbersCount) e in (
+      eqb-true s stateNumbersCount (first (eqb s stateNumbersCount) _ f),
+      (
+        eqb-true t tickNumbersCount (second (eqb s stateNumbersCount) _ f),
+        eqb-true r reportNumbersCount (second (eqb s stateNumbersCount && eqb t tickNumbersCount) _ e),
+      ),
+    )
 
 -- the two arrays of a pair
 pub pair-fits : (s r : ℕ) → pairLengths s r ≡ true → (s ≡ stateNumbersCount) × (r ≡ stateNumbersCount)

@@ -1,4 +1,5 @@
--- A tick of a prepared airframe is the tick of its block, since an airframe read from its own numbers is the airframe again; its arrays have 8 elements, which their types tell. Assumes nothing.
+-- A tick of a prepared airframe is the tick of its block, since an airframe read from its own numbers is the airframe again; its
+-- arrays have 8 elements, which their types tell. Assumes nothing.
 use Prim.Native.Nat.{ℕ}
 use lib.Ieee.{Float}
 use lib.ListN.{length}
@@ -29,10 +30,12 @@ pub record Eights (a : Airframe) : Type 0 where
   pub lift-torques : length (a .lift .motors .«torque_per_thrust_m») ≡ 8
 
 -- what `bench_prepare` leaves in an array, given to `bench_tick_prepared`
-pub prepared-tick : (block : List ℕ) (array state t report : List Float) → length array ≡ airframeNumbersCount → isDone (readAirframeOf block .answer) ≡ true → Eights (readAirframeOf block .airframe)
+pub prepared-tick : (block : List ℕ) (array state t report : List Float) → length array ≡ airframeNumbersCount
+    → isDone (readAirframeOf block .answer) ≡ true → Eights (readAirframeOf block .airframe)
     → tickPrepared (prepare block array .numbers) state t report ≡ tick block state t report
 unfolding prepare tickPrepared tick tickedBy
 prepared-tick block array state t report l e h =
     let a = readAirframeOf block .airframe in
     rw (eq-eqb _ _ l, eq-eqb _ _ (length-numbers a), e)
-    (ap (λ (a : Airframe). cond (tickLengths (length state) (length t) (length report)) (tested state (tickOf a (flightIn state) (tickIn t))) (untested state report)) (airframe-again a (h .used) (h .torques) (h .weights) (h .lift-used) (h .lift-torques)))
+    (ap (λ (a : Airframe). cond (tickLengths (length state) (length t) (length report)) (tested state (tickOf a (flightIn state) (tickIn t)))
+    (untested state report)) (airframe-again a (h .used) (h .torques) (h .weights) (h .lift-used) (h .lift-torques)))

@@ -22,15 +22,15 @@ use Rattle.arrays.specs.Airframe.{airframeNumbers, airframeNumbersCount, airfra
 use Rattle.arrays.specs.Flight.{flightNumbers, flightIn, stateNumbersCount, tickIn, tickNumbers, tickNumbersCount}
 use Rattle.run.specs.Calls.{Chain, Each}
 use Rattle.run.specs.Mirrored.{AcceptedAirframe, AcceptedState, Demand3, MirroredFlights}
-use Rattle.run.specs.Run.{Told, ended, ranOf}
-use Rattle.run.specs.declared.Ran.{Ran}
+use Rattle.run.specs.Run.{Told, ended, runResultOf}
+use Rattle.run.specs.declared.RunResult.{RunResult}
 use Rattle.state_block.specs.Layout.{readStateOf, stateBytes, writtenState}
 use Rattle.trace.specs.Reflection.{reflectTrace}
 use Rattle.trace.specs.Tick.{readTickOf, tickBytes, writtenTick}
 use Rattle.trace.specs.Trace.{isWhole}
 use Rattle.wing.specs.Tick.{refusedOf, tickOf}
 use Rattle.wing.specs.declared.Report.{Report}
-use Rattle.wing.specs.declared.Ticked.{Ticked}
+use Rattle.wing.specs.declared.TickResult.{TickResult}
 
 -- a reply as one number: the answer's number in the low four bits, its place above them
 unfoldable pub replyOf : Answer → ℕ
@@ -108,11 +108,11 @@ unfoldable pub reportNumbers : Report → List Float
 reportNumbers r = r .«alpha_rad» ∷ r .«beta_rad» ∷ r .«thrust_n» ∷ []
 
 -- the state's array afterwards: as found where the tick is refused
-unfoldable pub stateAfterTick : List Float → Ticked → List Float
+unfoldable pub stateAfterTick : List Float → TickResult → List Float
 stateAfterTick state k = cond (isDone (k .report .answer)) (flightNumbers (k .flight)) state
 
 -- a tick that was tested, and one whose arrays are of another length
-abbrev pub tested : List Float → Ticked → TickOutcome
+abbrev pub tested : List Float → TickResult → TickOutcome
 tested state k = record {
   reply = replyOf (k .report .answer);
   state = stateAfterTick state k;
@@ -123,7 +123,7 @@ abbrev pub untested : List Float → List Float → TickOutcome
 untested state report = record { reply = wrongLength; state = state; report = report }
 
 -- the airframe of a block that is refused refuses the tick, with the block's own answer
-unfoldable pub tickedBy : AirframeRead → Flight → Tick → Ticked
+unfoldable pub tickedBy : AirframeRead → Flight → Tick → TickResult
 tickedBy x f t = cond (isDone (x .answer)) (tickOf (x .airframe) f t) (refusedOf (x .answer) f)
 
 -- whether the lengths are those of a state, a tick and a report
@@ -178,21 +178,21 @@ ArrayCallsMirror call call' a a' found =
 -- ---- a run, and the mirrored pair
 
 -- the state's array afterwards: as found where the run is refused
-unfoldable pub stateAfterRun : List Float → Ran → List Float
+unfoldable pub stateAfterRun : List Float → RunResult → List Float
 stateAfterRun state r = cond (isDone (r .answer)) (flightNumbers (r .flight)) state
 
 -- a trace that is not whole ticks first, then a block that is refused, with its own answer: either leaves the state, with no
 -- accepted tick
-unfoldable pub ranBy : AirframeRead → Flight → List ℕ → Ran
-ranBy x f trace =
-    cond (isWhole trace) (cond (isDone (x .answer)) (ranOf (x .airframe) f trace) (ended (x .answer) f 0)) (ended WrongLength f 0)
+unfoldable pub runResultBy : AirframeRead → Flight → List ℕ → RunResult
+runResultBy x f trace =
+    cond (isWhole trace) (cond (isDone (x .answer)) (runResultOf (x .airframe) f trace) (ended (x .answer) f 0)) (ended WrongLength f 0)
 
 -- the run's reflection: reflected airframe, state and ticks
-unfoldable pub reflectedBy : AirframeRead → Flight → List ℕ → Ran
+unfoldable pub reflectedBy : AirframeRead → Flight → List ℕ → RunResult
 reflectedBy x f trace =
     cond (isWhole trace)
     (cond (isDone (x .answer))
-    (ranOf (reflectAirframe (x .airframe)) (reflectFlight f) (reflectTrace trace))
+    (runResultOf (reflectAirframe (x .airframe)) (reflectFlight f) (reflectTrace trace))
     (ended (x .answer) (reflectFlight f) 0))
     (ended WrongLength (reflectFlight f) 0)
 
@@ -205,7 +205,7 @@ pub record RunOutcome : Type 0 where
 -- bench_run
 unfoldable pub run : List ℕ → List Float → List ℕ → RunOutcome
 run block state trace =
-    let r = ranBy (readAirframeOf block) (flightIn state) trace in
+    let r = runResultBy (readAirframeOf block) (flightIn state) trace in
     cond (hasLength state stateNumbersCount)
     (record { reply = replyOf (r .answer); state = stateAfterRun state r; accepted = r .accepted })
     (record { reply = wrongLength; state = state; accepted = 0 })
@@ -225,7 +225,7 @@ pairLengths state reflected = eqb state stateNumbersCount && eqb reflected state
 -- bench_mirrored_pair: r the run, s its reflection
 unfoldable pub mirroredPair : List ℕ → List Float → List Float → List ℕ → PairOutcome
 mirroredPair block state reflected trace =
-    let r = ranBy (readAirframeOf block) (flightIn state) trace in
+    let r = runResultBy (readAirframeOf block) (flightIn state) trace in
     let s = reflectedBy (readAirframeOf block) (flightIn state) trace in
     cond (pairLengths (length state) (length reflected))
     (record {

@@ -23,9 +23,9 @@ use answers::Answer;
 use flight::Flight;
 use flight::Tick;
 use run::Pair;
-use run::Ran;
+use run::RunResult;
 use wing::Report;
-use wing::Ticked;
+use wing::TickResult;
 
 #[no_mangle]
 pub extern "C" fn bench_sqrtf(x: f32) -> f32
@@ -200,25 +200,25 @@ fn arrays_fit(state: usize, tick: usize, report: usize) -> bool
 }
 
 // The tick of an airframe that was read.
-fn ticked_by(read: AirframeRead, f: Flight, t: Tick) -> Ticked
+fn ticked_by(read: AirframeRead, f: Flight, t: Tick) -> TickResult
     ensures { λ r. ⌜ r ≡ Library.tickedBy read f t ⌝ }
 {
     let answer = read.answer;
     if answer.is_done() {
-        return lent_tick::tick_lent(read.airframe, f, t);
+        return lent_tick::tick_by_reference(read.airframe, f, t);
     }
     wing::refused(answer, f)
 }
 
 // The tick of an airframe in its array, which is tested where it stands, and read after the lag factors are made.
-fn ticked_prepared(airframe: &[f32], f: Flight, t: Tick) -> Ticked
+fn ticked_prepared(airframe: &[f32], f: Flight, t: Tick) -> TickResult
     requires { do ⌜ airframeNumbersCount ≤ (← ⟦airframe.len()⟧) ⌝ }
     ensures { λ r. ⌜ r ≡ tickOf (airframeIn (now (airframe .entry))) f t ⌝ }
 {
     let place = arrays::refused_place(airframe);
     if place == 0 {
         let powers = libm::powers_of_two();
-        let lags = wing::begin_by(arrays::lag_constants_in(airframe), t.step_s, &powers);
+        let lags = wing::lag_factors_from(arrays::lag_constants_in(airframe), t.step_s, &powers);
         let a = arrays::airframe_in(airframe);
         let densities = air::densities();
         return wing::tick_accepted(a, f, t, lags, &powers, &densities);
@@ -237,7 +237,7 @@ fn put_report(array: &mut [f32], r: Report)
 }
 
 // The state's numbers into its array, which a refused tick leaves as found.
-fn put_kept(state: &mut [f32], done: Ticked)
+fn store_if_accepted(state: &mut [f32], done: TickResult)
     requires { do ⌜ (← ⟦state.len()⟧) ≡ stateNumbersCount ⌝ }
     ensures { λ _. ⌜ now (state .exit) ≡ Library.stateAfterTick (now (state .entry)) done ⌝ }
 {
@@ -249,14 +249,14 @@ fn put_kept(state: &mut [f32], done: Ticked)
 }
 
 // What a tick gave, into the caller's arrays.
-fn handed_back(done: Ticked, state: &mut [f32], report: &mut [f32]) -> u64
+fn handed_back(done: TickResult, state: &mut [f32], report: &mut [f32]) -> u64
     requires { do ⌜ (← ⟦state.len()⟧) ≡ stateNumbersCount ⌝ ∗ do ⌜ (← ⟦report.len()⟧) ≡ Library.reportNumbersCount ⌝ }
     ensures { λ r. ⌜ (let o = Library.tested (now (state .entry)) done in
         (r ≡ o .reply) × (now (state .exit) ≡ o .state) × (now (report .exit) ≡ o .report)) ⌝ }
 {
     let said = done.report;
     let answer = said.answer;
-    put_kept(state, done);
+    store_if_accepted(state, done);
     put_report(report, said);
     reply(answer)
 }
@@ -304,10 +304,10 @@ pub extern "C" fn bench_tick_prepared(
     WRONG_LENGTH
 }
 
-fn ended(answer: Answer, flight: Flight) -> Ran
+fn ended(answer: Answer, flight: Flight) -> RunResult
     ensures { λ r. ⌜ r ≡ Run.ended answer flight 0 ⌝ }
 {
-    Ran {
+    RunResult {
         answer,
         flight,
         accepted: 0,
@@ -315,8 +315,8 @@ fn ended(answer: Answer, flight: Flight) -> Ran
 }
 
 // The run of an airframe that was read.
-fn ran_by(read: AirframeRead, f: Flight, trace: &[u8]) -> Ran
-    ensures { λ r. ⌜ r ≡ Library.ranBy read f (now (trace .entry)) ⌝ }
+fn run_by(read: AirframeRead, f: Flight, trace: &[u8]) -> RunResult
+    ensures { λ r. ⌜ r ≡ Library.runResultBy read f (now (trace .entry)) ⌝ }
 {
     if trace::is_whole(trace) {
         let answer = read.answer;
@@ -353,7 +353,7 @@ fn pair_by(read: AirframeRead, f: Flight, trace: &[u8]) -> Pair
 }
 
 // A run's end state into its array, which a refused run leaves as found.
-fn put_end(state: &mut [f32], done: Ran)
+fn put_end(state: &mut [f32], done: RunResult)
     requires { do ⌜ (← ⟦state.len()⟧) ≡ stateNumbersCount ⌝ }
     ensures { λ _. ⌜ now (state .exit) ≡ Library.stateAfterRun (now (state .entry)) done ⌝ }
 {
@@ -377,7 +377,7 @@ pub extern "C" fn bench_run(
     let lent = state.len();
     if lent == arrays::STATE_NUMBERS {
         let f = arrays::flight_in(state);
-        let done = ran_by(airframe_block::read_airframe(airframe), f, trace);
+        let done = run_by(airframe_block::read_airframe(airframe), f, trace);
         let answer = done.answer;
         put_end(state, done);
         *accepted = done.accepted;

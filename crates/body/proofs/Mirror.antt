@@ -3,8 +3,10 @@ use lib.Ieee.{Float}
 use lib.IntN.{pos}
 use mathlib.Core.Bool.{false, true}
 use Rattle.float.proofs.Mirror.{mirror, r-same, r-zero}
-use Rattle.float.specs.Notation.{nought}
-use Rattle.vector.proofs.Mirror.{add-mirror, component-div-mirror, cross-axis-mirror, from-scaled-axis-mirror, reflect-axis, reflect-quat, reflect-vec, renormalized-mirror, scale-mirror, sub-mirror, times-mirror, unscale-mirror, vec-mirror}
+use Rattle.float.specs.Notation.{zero}
+use Rattle.vector.proofs.Mirror.{add-mirror, component-div-mirror, cross-axis-mirror, from-scaled-axis-mirror, reflect-axis}
+use Rattle.vector.proofs.Mirror.{reflect-quat, reflect-vec, renormalized-mirror, scale-mirror, sub-mirror, times-mirror}
+use Rattle.vector.proofs.Mirror.{unscale-mirror, vec-mirror}
 use Rattle.vector.specs.Reflection.{QuatRel, VecRel}
 use Rattle.vector.specs.Vector.{componentMul}
 use Rattle.vector.specs.declared.Quaternion.{Quaternion}
@@ -22,7 +24,7 @@ add-wrench-mirror h k = record { force = add-mirror (h .force) (k .force); torqu
 
 acceleration-mirror : {f f' : Vec3} (m : Float) → VecRel false f f' → VecRel false (accelerationOf f m) (accelerationOf f' m)
 unfolding accelerationOf
-acceleration-mirror m k = add-mirror (unscale-mirror m k) (vec-mirror (r-same nought) (r-zero true false false (pos 0)) (r-same gravity))
+acceleration-mirror m k = add-mirror (unscale-mirror m k) (vec-mirror (r-same zero) (r-zero true false false (pos 0)) (r-same gravity))
 
 velocity-mirror : {v v' f f' : Vec3} (m h : Float) → VecRel false v v' → VecRel false f f' → VecRel false (nextVelocity v f m h) (nextVelocity v' f' m h)
 unfolding nextVelocity

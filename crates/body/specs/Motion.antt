@@ -1,6 +1,6 @@
 -- One step of the rigid body, semi-implicit Euler: the position moves with the new velocity (01, module 7). Definitions only.
 use lib.Ieee.{Float}
-use Rattle.float.specs.Notation.{nought, rounded}
+use Rattle.float.specs.Notation.{zero, rounded}
 use Rattle.vector.specs.Rotation.{fromScaledAxis, renormalized, timesOf}
 use Rattle.vector.specs.Vector.{addOf, componentDiv, componentMul, crossOf, scaleOf, subOf, unscaleOf, vec}
 use Rattle.vector.specs.declared.Quaternion.{Quaternion}
@@ -23,7 +23,7 @@ gravity = rounded 980665 100000
 
 -- F/m + (0, 0, g): down is +z
 unfoldable pub accelerationOf : Vec3 → Float → Vec3
-accelerationOf force mass = addOf (unscaleOf force mass) (vec nought nought gravity)
+accelerationOf force mass = addOf (unscaleOf force mass) (vec zero zero gravity)
 
 unfoldable pub nextVelocity : Vec3 → Vec3 → Float → Float → Vec3
 nextVelocity v force mass h = addOf v (scaleOf (accelerationOf force mass) h)
@@ -39,7 +39,7 @@ netTorque rates inertia l = subOf (subOf (l .«torque_nm») (crossOf rates (comp
 unfoldable pub nextRates : Vec3 → Vec3 → Loads → Float → Vec3
 nextRates rates inertia l h = addOf rates (scaleOf (componentDiv (netTorque rates inertia l) inertia) h)
 
--- the turn of the new rates stands on the right: they are on body axes
+-- the rotation by the new rates stands on the right: they are on body axes
 unfoldable pub nextAttitude : Quaternion → Vec3 → Float → Quaternion
 nextAttitude q rates h = renormalized (timesOf q (fromScaledAxis (scaleOf rates h)))
 

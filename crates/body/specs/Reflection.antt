@@ -1,5 +1,5 @@
--- A body and its loads seen in a mirror of left and right (01, "Reflection negates"): position and velocity east, i, k, p, r turn
--- their sign. Definitions only.
+-- A body and its loads seen in a mirror of left and right (01, "Reflection negates"): position and velocity east, i, k, p, r are
+-- negated. Definitions only.
 use mathlib.Core.Bool.{false, true}
 use Rattle.vector.specs.Reflection.{QuatRel, VecRel, reflectAxis, reflectQuat, reflectVec}
 use Rattle.body.specs.declared.Body.{Body}

@@ -126,14 +126,14 @@ fn net_torque(rates: Vec3, inertia: Vec3, loads: Loads) -> Vec3
 fn next_rates(rates: Vec3, inertia: Vec3, loads: Loads, h: f32) -> Vec3
     ensures { λ r. ⌜ r ≡ Motion.nextRates rates inertia loads h ⌝ }
 {
-    let turning = net_torque(rates, inertia, loads).component_div(inertia);
-    rates.add(turning.scale(h))
+    let angular_acceleration = net_torque(rates, inertia, loads).component_div(inertia);
+    rates.add(angular_acceleration.scale(h))
 }
 
-// The turn is about body axes, so it stands second in the product.
+// The rotation is about body axes, so it stands second in the product.
 fn next_attitude(attitude: Quaternion, rates: Vec3, h: f32) -> Quaternion
     ensures { λ r. ⌜ r ≡ Motion.nextAttitude attitude rates h ⌝ }
 {
-    let turn = Quaternion::from_scaled_axis(rates.scale(h));
-    attitude.times(turn).renormalize_fast()
+    let rotation = Quaternion::from_scaled_axis(rates.scale(h));
+    attitude.times(rotation).renormalize_fast()
 }

@@ -3,11 +3,11 @@ use lib.Dec.{T}
 use lib.Ieee.{add, div, eq, le, lt, mul, ne, neg, ofBits, ofInt, round, sub, toBits, toSigned}
 use Rattle.aero.specs.Coefficients.{exponent, pastNegative, pastPositive, sigmoid, stallBlend}
 use Rattle.fixed_wing.specs.Falloff.{falloffShare, linearShare, pitchSpeedShare}
-use Rattle.float.specs.Notation.{atLeastZero, clamp, sizeOf}
+use Rattle.float.specs.Notation.{atLeastZero, clamp, abs}
 use Rattle.float.specs.Same.{num}
 use Rattle.lag.specs.Lag.{approachOf, approachSaturated, saturated}
 use Rattle.libm.specs.Atan.{angleOf, atan2Of, atanNear, atanPoly, beyond, offOrigin, sided}
-use Rattle.libm.specs.Exp.{core, expOf, expSeries, horner, near-down, near-up, poly, rest, turns}
+use Rattle.libm.specs.Exp.{core, expOf, expSeries, horner, near-down, near-up, poly, rest, binaryExponent}
 use Rattle.libm.specs.Sqrt.{digits, isqrt, rootUnits, sqrtOf}
 use Rattle.mixers.specs.Slots.{vecSumTo}
 use Rattle.mixers.specs.Rows.{liveOf, putTo}
@@ -17,5 +17,9 @@ use Rattle.vector.specs.Vector.{addOf, componentMul}
 use Rattle.cases.specs.Table.{allHold, blunt, disc, holds, oneServo, table}
 
 pub all-hold : T (allHold table)
-unfolding allHold holds table blunt disc oneServo num toBits approachOf approachSaturated saturated clamp falloffShare pitchSpeedShare linearShare atLeastZero stallBlend sigmoid pastPositive pastNegative exponent expOf core poly expSeries horner rest turns near-up near-down atan2Of offOrigin sided beyond angleOf atanNear atanPoly sizeOf surfacesOf weighed factorsOf putTo liveOf putServoRow putServoAt putServo weightAt componentMul inverseOf inverseOrZero squaresOf squareAt vecSumTo addOf sqrtOf rootUnits isqrt digits addedPa discPa add sub mul div neg lt le eq ne round ofBits ofInt toSigned
+unfolding allHold holds table blunt disc oneServo num toBits approachOf approachSaturated saturated clamp falloffShare
+    pitchSpeedShare linearShare atLeastZero stallBlend sigmoid pastPositive pastNegative exponent expOf core poly expSeries horner
+    rest binaryExponent near-up near-down atan2Of offOrigin sided beyond angleOf atanNear atanPoly abs surfacesOf weighed factorsOf
+    putTo liveOf putServoRow putServoAt putServo weightAt componentMul inverseOf inverseOrZero squaresOf squareAt vecSumTo addOf
+    sqrtOf rootUnits isqrt digits addedPa discPa add sub mul div neg lt le eq ne round ofBits ofInt toSigned
 all-hold = tt

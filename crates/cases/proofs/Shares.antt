@@ -5,8 +5,8 @@ use Rattle.fixed_wing.specs.Falloff.{falloffShare, pitchSpeedShare}
 use Rattle.float.specs.Interval.{inside}
 use Rattle.float.specs.Notation.{atLeastZero}
 use Rattle.float.specs.Same.{num}
-use Rattle.libm.specs.Exp.{core, expOf, expSeries, horner, near-down, near-up, poly, rest, turns}
-use Rattle.libm.specs.Log.{exponentOf, lnNear, lnOf, lnOfParts, logSeries, mantissaOf, places, ratio}
+use Rattle.libm.specs.Exp.{core, expOf, expSeries, horner, near-down, near-up, poly, rest, binaryExponent}
+use Rattle.libm.specs.Log.{exponentOf, lnNear, lnOf, lnOfParts, logSeries, mantissaOf, shift, ratio}
 use Rattle.libm.specs.Pow.{atMostOne, powOf}
 use Rattle.libm.specs.Sqrt.{sqrtOf}
 use Rattle.motors.specs.Motor.{thrustFraction}
@@ -14,5 +14,7 @@ use Rattle.cases.specs.Shares.{shares}
 use Rattle.cases.specs.Table.{allHold, holds}
 
 pub shares-hold : T (allHold shares)
-unfolding allHold holds shares num toBits thrustFraction falloffShare pitchSpeedShare atLeastZero powOf atMostOne inside expOf core poly expSeries horner rest turns near-up near-down lnOf lnOfParts lnNear logSeries ratio mantissaOf exponentOf places sqrtOf add sub mul div neg lt le eq ne round ofBits ofInt toSigned size
+unfolding allHold holds shares num toBits thrustFraction falloffShare pitchSpeedShare atLeastZero powOf atMostOne inside expOf core
+    poly expSeries horner rest binaryExponent near-up near-down lnOf lnOfParts lnNear logSeries ratio mantissaOf exponentOf shift
+    sqrtOf add sub mul div neg lt le eq ne round ofBits ofInt toSigned size
 shares-hold = tt

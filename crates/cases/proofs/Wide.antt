@@ -12,10 +12,10 @@ use Rattle.float.proofs.Interval.{within-finite}
 use Rattle.float.proofs.Rounding.{add-mono, sub-mono}
 use Rattle.float.proofs.Zeros.{round-zero}
 use Rattle.float.specs.Interval.{Within}
-use Rattle.float.specs.Notation.{_⊕_, _⊖_, clamp, nought, one, rounded, sizeOf}
+use Rattle.float.specs.Notation.{_⊕_, _⊖_, clamp, zero, one, rounded, abs}
 use Rattle.float.specs.Same.{num}
 use Rattle.lag.specs.Lag.{approachOf, approachSaturated, saturated}
-use Rattle.libm.specs.Exp.{core, expOf, expSeries, horner, near-down, near-up, poly, rest, turns}
+use Rattle.libm.specs.Exp.{core, expOf, expSeries, horner, near-down, near-up, poly, rest, binaryExponent}
 use Rattle.cases.specs.Wide.{BluntBlend, FullThrottleStays}
 
 -- ---- a zero times a finite number is a zero
@@ -31,7 +31,8 @@ zero-times : (f : Format) (s : Bool) (x : Float) → T (finite x) → mul f (fin
 unfolding mul isMinus
 zero-times f s nan h = absurd h
 zero-times f s (inf t) h = absurd h
-zero-times f s (fin t n d) h = ap (λ (a : ℕ). round f (unlike s t) a (down (pos 0) * down d)) (none (up (pos 0)) (n * up d)) ∙ round-zero f (unlike s t) (down (pos 0) * down d)
+zero-times f s (fin t n d) h =
+    ap (λ (a : ℕ). round f (unlike s t) a (down (pos 0) * down d)) (none (up (pos 0)) (n * up d)) ∙ round-zero f (unlike s t) (down (pos 0) * down d)
 
 -- ---- +infinity, running 1
 one-and-zero : (t : Bool) → num (add binary32 one (fin t 0 (pos 0))) ≡ one
@@ -41,27 +42,36 @@ one-and-zero false = refl
 
 pub full-throttle-stays : FullThrottleStays
 unfolding approachSaturated approachOf saturated clamp ne lt sub num
-full-throttle-stays factor w = record { same = rw (zero-times binary32 false factor (within-finite nought one factor tt tt w)) (one-and-zero (unlike false (isMinus factor))) }
+full-throttle-stays factor w =
+    record { same = rw (zero-times binary32 false factor (within-finite zero one factor tt tt w)) (one-and-zero (unlike false (isMinus factor))) }
 
 -- ---- sharpness 0
 exponent-none : (t : Bool) → exponent (fin t 0 (pos 0)) ≡ one
-unfolding exponent clamp expOf core poly expSeries horner rest turns near-up near-down sizeOf add sub mul div neg lt le ne round ofBits ofInt toSigned
+unfolding exponent clamp expOf core poly expSeries horner rest binaryExponent near-up near-down abs add sub mul div neg lt le ne round ofBits ofInt toSigned
 exponent-none true = refl
 exponent-none false = refl
 
-apart : (alpha stall : Float) → Within nought (rounded 16 10) stall → Within (neg (rounded 4 1)) (rounded 4 1) alpha → T (finite (alpha ⊖ stall))
+apart : (alpha stall : Float) → Within zero (rounded 16 10) stall → Within (neg (rounded 4 1)) (rounded 4 1) alpha → T (finite (alpha ⊖ stall))
 unfolding round neg sub
 apart alpha stall v w =
     let p = within-finite _ _ stall tt tt v in
     let q = within-finite _ _ alpha tt tt w in
-    within-finite (neg (rounded 4 1) ⊖ rounded 16 10) (rounded 4 1 ⊖ nought) (alpha ⊖ stall) tt tt (record { at-least = sub-mono binary32 _ alpha _ stall tt q tt p (w .at-least) (v .at-most); at-most = sub-mono binary32 alpha _ stall _ q tt p tt (w .at-most) (v .at-least) })
+    within-finite (neg (rounded 4 1) ⊖ rounded 16 10) (rounded 4 1 ⊖ zero) (alpha ⊖ stall) tt tt
+    (record {
+      at-least = sub-mono binary32 _ alpha _ stall tt q tt p (w .at-least) (v .at-most);
+      at-most = sub-mono binary32 alpha _ stall _ q tt p tt (w .at-most) (v .at-least);
+    })
 
-together : (alpha stall : Float) → Within nought (rounded 16 10) stall → Within (neg (rounded 4 1)) (rounded 4 1) alpha → T (finite (alpha ⊕ stall))
+together : (alpha stall : Float) → Within zero (rounded 16 10) stall → Within (neg (rounded 4 1)) (rounded 4 1) alpha → T (finite (alpha ⊕ stall))
 unfolding round neg add
 together alpha stall v w =
     let p = within-finite _ _ stall tt tt v in
     let q = within-finite _ _ alpha tt tt w in
-    within-finite (neg (rounded 4 1) ⊕ nought) (rounded 4 1 ⊕ rounded 16 10) (alpha ⊕ stall) tt tt (record { at-least = add-mono binary32 _ alpha _ stall tt q tt p (w .at-least) (v .at-least); at-most = add-mono binary32 alpha _ stall _ q tt p tt (w .at-most) (v .at-most) })
+    within-finite (neg (rounded 4 1) ⊕ zero) (rounded 4 1 ⊕ rounded 16 10) (alpha ⊕ stall) tt tt
+    (record {
+      at-least = add-mono binary32 _ alpha _ stall tt q tt p (w .at-least) (v .at-least);
+      at-most = add-mono binary32 alpha _ stall _ q tt p tt (w .at-most) (v .at-most);
+    })
 
 three-quarters : sigmoid one one ≡ rounded 75 100
 unfolding sigmoid add mul div round

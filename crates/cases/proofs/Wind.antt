@@ -13,7 +13,12 @@ neither false = refl
 
 unusable : (x : Float) → inside (neg windMost) windMost x ≡ false → Unusable x
 unfolding windUsable vecInside
-unusable x h = record { north = λ e d. rw h refl; east = λ n d. rw h (neither (inside (neg windMost) windMost n)); down = λ n e. rw h (last (inside (neg windMost) windMost n) (inside (neg windMost) windMost e)) }
+unusable x h =
+    record {
+      north = λ e d. rw h refl;
+      east = λ n d. rw h (neither (inside (neg windMost) windMost n));
+      down = λ n e. rw h (last (inside (neg windMost) windMost n) (inside (neg windMost) windMost e));
+    }
   where
     last : (a b : Bool) → cond a (cond b false false) false ≡ false
     last true b = neither b

@@ -4,7 +4,7 @@ use lib.Ieee.{Float, neg}
 use lib.ListN.{replicate}
 use mathlib.Core.List.{List, [], _∷_}
 use Rattle.body.specs.declared.Wrench.{Wrench}
-use Rattle.float.specs.Notation.{half, minusOne, nought, one, rounded, two}
+use Rattle.float.specs.Notation.{half, minusOne, zero, one, rounded, two}
 use Rattle.mixers.specs.Rows.{noRow}
 use Rattle.mixers.specs.Slots.{vecAt}
 use Rattle.mixers.specs.declared.Rows.{Rows}
@@ -43,7 +43,7 @@ rotors = record { motors = liftGroupOf rows layout half; «drag_per_thrust_n_per
 
 -- slot 0 at 0.5 gives 5 N, slot 5, which no row names, at 0.25 gives 1.25 N
 unfoldable pub running : List Float
-running = half ∷ nought ∷ nought ∷ nought ∷ nought ∷ rounded 1 4 ∷ nought ∷ nought ∷ []
+running = half ∷ zero ∷ zero ∷ zero ∷ zero ∷ rounded 1 4 ∷ zero ∷ zero ∷ []
 
 -- 3 m/s forward, 2 to the left, 9 downward
 unfoldable pub wrench : Wrench

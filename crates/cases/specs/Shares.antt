@@ -4,7 +4,7 @@ use lib.Ieee.{neg}
 use mathlib.Core.List.{List, [], _∷_}
 use Rattle.fixed_wing.specs.Falloff.{falloffShare}
 use Rattle.fixed_wing.specs.declared.ThrustFalloff.the-variants.{PitchSpeed}
-use Rattle.float.specs.Notation.{half, hex, nought, one, rounded, two}
+use Rattle.float.specs.Notation.{half, hex, zero, one, rounded, two}
 use Rattle.libm.specs.Log.{lnOf}
 use Rattle.motors.specs.Motor.{thrustFraction}
 use Rattle.cases.specs.Table.{Case, is}
@@ -19,7 +19,7 @@ shares =
     ∷ is (thrustFraction half (rounded 18 10)) 0x3E93088C
     -- 1, -0 and a running value beyond 1
     ∷ is (thrustFraction one (rounded 18 10)) 0x3F800000
-    ∷ is (thrustFraction (neg nought) (rounded 3 1)) 0
+    ∷ is (thrustFraction (neg zero) (rounded 3 1)) 0
     ∷ is (thrustFraction (rounded 15 10) (rounded 18 10)) 0x7FC00000
     -- 1e-13 cubed is 0, and PitchSpeed 20 then leaves nothing at 5 m/s, as of a stopped motor
     ∷ is (thrustFraction (rounded 1 10000000000000) (rounded 3 1)) 0

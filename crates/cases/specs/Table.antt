@@ -10,7 +10,7 @@ use Rattle.aero.specs.Coefficients.{stallBlend}
 use Rattle.fixed_wing.specs.Falloff.{falloffShare}
 use Rattle.fixed_wing.specs.declared.AeroCoefficients.{AeroCoefficients}
 use Rattle.fixed_wing.specs.declared.ThrustFalloff.the-variants.{PitchSpeed}
-use Rattle.float.specs.Notation.{half, minusOne, nought, one, rounded, two}
+use Rattle.float.specs.Notation.{half, minusOne, zero, one, rounded, two}
 use Rattle.float.specs.Same.{num}
 use Rattle.lag.specs.Lag.{approachOf, approachSaturated}
 use Rattle.libm.specs.Atan.{atan2Of}
@@ -33,29 +33,29 @@ is v b = record { value = v; bits = b }
 -- sharpness 0, at an angle of attack of 0.5 and a stall angle of 0.25
 unfoldable pub blunt : AeroCoefficients
 blunt = record {
-  «c_lift_0» = nought;
-  «c_lift_alpha» = nought;
+  «c_lift_0» = zero;
+  «c_lift_alpha» = zero;
   «alpha_stall_rad» = rounded 25 100;
-  «stall_sharpness» = nought;
-  «c_drag_0» = nought;
+  «stall_sharpness» = zero;
+  «c_drag_0» = zero;
   oswald = one;
-  «c_side_beta» = nought;
-  «c_side_rudder» = nought;
-  «c_roll_beta» = nought;
-  «c_roll_p» = nought;
-  «c_roll_r» = nought;
-  «c_roll_aileron» = nought;
-  «c_roll_rudder» = nought;
-  «c_pitch_0» = nought;
-  «c_pitch_alpha» = nought;
-  «post_stall_pitch_share» = nought;
-  «c_pitch_q» = nought;
-  «c_pitch_elevator» = nought;
-  «surface_stall_share» = nought;
-  «c_yaw_beta» = nought;
-  «c_yaw_p» = nought;
-  «c_yaw_r» = nought;
-  «c_yaw_rudder» = nought;
+  «c_side_beta» = zero;
+  «c_side_rudder» = zero;
+  «c_roll_beta» = zero;
+  «c_roll_p» = zero;
+  «c_roll_r» = zero;
+  «c_roll_aileron» = zero;
+  «c_roll_rudder» = zero;
+  «c_pitch_0» = zero;
+  «c_pitch_alpha» = zero;
+  «post_stall_pitch_share» = zero;
+  «c_pitch_q» = zero;
+  «c_pitch_elevator» = zero;
+  «surface_stall_share» = zero;
+  «c_yaw_beta» = zero;
+  «c_yaw_p» = zero;
+  «c_yaw_r» = zero;
+  «c_yaw_rudder» = zero;
 }
 
 -- a disc of 1 m² with a sink loss of 0.5
@@ -66,8 +66,8 @@ disc = record {
   «roll_fraction» = one;
   «damping_fraction» = one;
   «sink_loss» = half;
-  «pitch_moment» = nought;
-  «stall_pitch_moment» = nought;
+  «pitch_moment» = zero;
+  «stall_pitch_moment» = zero;
 }
 
 -- one row, of the servo at slot k, factor 0.5 on each axis; and the weight it gets
@@ -80,21 +80,21 @@ servoWeight k = vecAt (surfacesOf (oneServo k) .weights) k .x
 unfoldable pub table : List Case
 table =
     -- approach 0 to 1, factor 0.5: 0.5
-    is (approachOf nought one half) 0x3F000000
+    is (approachOf zero one half) 0x3F000000
     -- NaN command, running 0.5, factor 0.5: 0.25
-    ∷ is (approachSaturated half nan nought one nought half) 0x3E800000
+    ∷ is (approachSaturated half nan zero one zero half) 0x3E800000
     -- +infinity, running 1: 1
-    ∷ is (approachSaturated one (inf false) nought one nought half) 0x3F800000
+    ∷ is (approachSaturated one (inf false) zero one zero half) 0x3F800000
     -- servo -7, running 0, factor 1: -1
-    ∷ is (approachSaturated nought (neg (rounded 7 1)) minusOne one nought one) 0xBF800000
+    ∷ is (approachSaturated zero (neg (rounded 7 1)) minusOne one zero one) 0xBF800000
     -- PitchSpeed 20, share 0.25, speed 5: 0.5; speed NaN: 1; share 0, speed 5: 0
     ∷ is (falloffShare (PitchSpeed (rounded 20 1)) one (rounded 1 4) (rounded 5 1)) 0x3F000000
     ∷ is (falloffShare (PitchSpeed (rounded 20 1)) one (rounded 1 4) nan) 0x3F800000
-    ∷ is (falloffShare (PitchSpeed (rounded 20 1)) one nought (rounded 5 1)) 0
+    ∷ is (falloffShare (PitchSpeed (rounded 20 1)) one zero (rounded 5 1)) 0
     -- sharpness 0: blend 0.75
     ∷ is (stallBlend blunt half) 0x3F400000
     -- atan2(-0, -1) = 40490FDB
-    ∷ is (atan2Of (neg nought) minusOne) 0x40490FDB
+    ∷ is (atan2Of (neg zero) minusOne) 0x40490FDB
     -- one servo, factor 0.5: weight 2, whatever its slot
     ∷ is (servoWeight 0) 0x40000000
     ∷ is (servoWeight 1) 0x40000000

@@ -9,14 +9,15 @@ use mathlib.Core.Path.{_∙_, _≡_, ap, refl, sym}
 use native.Mathlib.Omega.{arith}
 use Rattle.ordered.proofs.Ordered.{pass-none, pass-some, some-eqb}
 use Rattle.float.specs.Interval.{inside}
-use Rattle.float.specs.Notation.{minusOne, nought, one}
+use Rattle.float.specs.Notation.{minusOne, zero, one}
 use Rattle.ordered.specs.Ordered.{allPass}
 use Rattle.ordered.specs.Ordered.{after, firstFail, orElse}
 use Rattle.vector.specs.Rotation.{quatNorm}
 use Rattle.vector.specs.Vector.{vecInside}
 use Rattle.vector.specs.declared.Quaternion.{Quaternion}
 use Rattle.vector.specs.declared.Vec3.{Vec3}
-use Rattle.flight.specs.Envelope.{attitudeOutside, isInside, maxNorm, maxPosition, maxRate, maxVelocity, minNorm, outsideOf, slotInside, slotsOutside, vecOutside}
+use Rattle.flight.specs.Envelope.{attitudeOutside, isInside, maxNorm, maxPosition, maxRate, maxVelocity, minNorm, outsideOf}
+use Rattle.flight.specs.Envelope.{slotInside, slotsOutside, vecOutside}
 use Rattle.flight.specs.State.{bodyOf}
 use Rattle.flight.specs.declared.Flight.{Flight}
 
@@ -84,8 +85,8 @@ pub inside-all : (f : Flight)
     (and (vecInside maxVelocity (bodyOf f .«velocity_ned_mps»))
     (and (inside minNorm maxNorm (quatNorm (bodyOf f .attitude)))
     (and (vecInside maxRate (bodyOf f .«angular_velocity_radps»))
-    (and (allPass (slotInside nought one (f .motors)) 8)
+    (and (allPass (slotInside zero one (f .motors)) 8)
     (and (allPass (slotInside minusOne one (f .servos)) 8)
-    (and (allPass (slotInside nought one (f .«thrust_scale»)) 8) (allPass (slotInside nought one (f .«lift_motors»)) 8)))))))
+    (and (allPass (slotInside zero one (f .«thrust_scale»)) 8) (allPass (slotInside zero one (f .«lift_motors»)) 8)))))))
 unfolding isInside outsideOf
 inside-all f = simp (none-or, none-after, none-vec, none-attitude, none-slots)

@@ -24,7 +24,17 @@ attitude-outside-is h = rw (quat-norm-is h)
 
 pub outside-is : {f f' : Flight} → FlightRel f f' → outsideOf f' ≡ outsideOf f
 unfolding outsideOf
-outside-is h = rw (vec-outside-is maxPosition (h .body .position), vec-outside-is maxVelocity (h .body .velocity), attitude-outside-is (h .body .attitude), vec-outside-is maxRate (h .body .rates), h .motors, h .servos, h .scale, h .lift)
+outside-is h =
+    rw (
+      vec-outside-is maxPosition (h .body .position),
+      vec-outside-is maxVelocity (h .body .velocity),
+      attitude-outside-is (h .body .attitude),
+      vec-outside-is maxRate (h .body .rates),
+      h .motors,
+      h .servos,
+      h .scale,
+      h .lift,
+    )
 
 -- the reflection by flipping sign bits is one
 pub reflect-flight : (f : Flight) → FlightRel f (reflectFlight f)

@@ -8,7 +8,7 @@ use lib.ListN.{replicate}
 use mathlib.Core.Bool.{Bool, cond}
 use mathlib.Core.List.{List, [], _∷_}
 use Rattle.float.specs.Interval.{inside}
-use Rattle.float.specs.Notation.{minusOne, nought, one, rounded}
+use Rattle.float.specs.Notation.{minusOne, zero, one, rounded}
 use Rattle.ordered.specs.Ordered.{after, firstFail, firstOf}
 use Rattle.mixers.specs.Slots.{at}
 use Rattle.vector.specs.Rotation.{quat, quatNorm}
@@ -21,11 +21,11 @@ use Rattle.flight.specs.declared.Flight.{Flight}
 abbrev pub zeroFlight : Flight
 zeroFlight =
     flightOf
-    (record { «position_ned_m» = zeroVec; «velocity_ned_mps» = zeroVec; attitude = quat nought nought nought nought; «angular_velocity_radps» = zeroVec })
-    (replicate 8 nought)
-    (replicate 8 nought)
-    (replicate 8 nought)
-    (replicate 8 nought)
+    (record { «position_ned_m» = zeroVec; «velocity_ned_mps» = zeroVec; attitude = quat zero zero zero zero; «angular_velocity_radps» = zeroVec })
+    (replicate 8 zero)
+    (replicate 8 zero)
+    (replicate 8 zero)
+    (replicate 8 zero)
 
 -- ---- the limits: sizes of position, velocity and rates, and N's ends
 abbrev pub maxPosition : Float
@@ -69,10 +69,10 @@ outsideOf f =
     ∷ after 3 (vecOutside maxVelocity (bodyOf f .«velocity_ned_mps»))
     ∷ after 6 (attitudeOutside (bodyOf f .attitude))
     ∷ after 7 (vecOutside maxRate (bodyOf f .«angular_velocity_radps»))
-    ∷ after 10 (slotsOutside nought one (f .motors))
+    ∷ after 10 (slotsOutside zero one (f .motors))
     ∷ after 18 (slotsOutside minusOne one (f .servos))
-    ∷ after 26 (slotsOutside nought one (f .«thrust_scale»))
-    ∷ after 34 (slotsOutside nought one (f .«lift_motors»))
+    ∷ after 26 (slotsOutside zero one (f .«thrust_scale»))
+    ∷ after 34 (slotsOutside zero one (f .«lift_motors»))
     ∷ [])
 
 -- an accepted state

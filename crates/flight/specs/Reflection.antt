@@ -1,4 +1,4 @@
--- The reflection of a state and of a tick (01, "Reflection negates"): a state's body is reflected, a tick's wind turns in east,
+-- The reflection of a state and of a tick (01, "Reflection negates"): a state's body is reflected, a tick's wind is negated in east,
 -- all else stays, the thrust scales (02, 2) and the lift rotors' values (02, 5) too. And what it is for one state or tick to be the
 -- other's reflection as numbers. Definitions only.
 use mathlib.Core.Bool.{false}

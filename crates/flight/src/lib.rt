@@ -170,7 +170,7 @@ impl Flight {
         let running = self.motors;
         let positions = self.servos;
         let thrust_scale = self.thrust_scale;
-        let lifting = self.lift_motors;
+        let lift_running = self.lift_motors;
         let position = vec_outside(body.position_ned_m, MAX_POSITION_M);
         let velocity = ordered::after(3, vec_outside(body.velocity_ned_mps, MAX_VELOCITY_MPS));
         let attitude = ordered::after(6, attitude_outside(body.attitude));
@@ -178,7 +178,7 @@ impl Flight {
         let motors = ordered::after(10, slots_outside(running, MIN_RUNNING, MAX_RUNNING));
         let servos = ordered::after(18, slots_outside(positions, MIN_SERVO, MAX_SERVO));
         let scales = ordered::after(26, slots_outside(thrust_scale, MIN_RUNNING, MAX_RUNNING));
-        let lift = ordered::after(34, slots_outside(lifting, MIN_RUNNING, MAX_RUNNING));
+        let lift = ordered::after(34, slots_outside(lift_running, MIN_RUNNING, MAX_RUNNING));
         let after_servos = ordered::or_else(scales, lift);
         let after_motors = ordered::or_else(servos, after_servos);
         let after_rates = ordered::or_else(motors, after_motors);
@@ -254,7 +254,7 @@ impl Flight {
         let running = self.motors;
         let positions = self.servos;
         let thrust_scale = self.thrust_scale;
-        let lifting = self.lift_motors;
+        let lift_running = self.lift_motors;
         let position = body.position_ned_m.is_inside(MAX_POSITION_M);
         let velocity = body.velocity_ned_mps.is_inside(MAX_VELOCITY_MPS);
         let attitude = float::inside(
@@ -266,7 +266,7 @@ impl Flight {
         let motors = slots_inside(running, MIN_RUNNING, MAX_RUNNING);
         let servos = slots_inside(positions, MIN_SERVO, MAX_SERVO);
         let scales = slots_inside(thrust_scale, MIN_RUNNING, MAX_RUNNING);
-        let lift = slots_inside(lifting, MIN_RUNNING, MAX_RUNNING);
+        let lift = slots_inside(lift_running, MIN_RUNNING, MAX_RUNNING);
         let after_servos = ordered::both(scales, lift);
         let after_motors = ordered::both(servos, after_servos);
         let after_rates = ordered::both(motors, after_motors);

@@ -15,7 +15,8 @@ and-both false b e = absurd (false≢true e)
 
 pub inside-within : {lo hi x : Float} → inside lo hi x ≡ true → Within lo hi x
 unfolding inside
-inside-within {lo} {hi} {x} e = record { at-least = subst T (sym (and-both (le lo x) (le x hi) e .0)) tt; at-most = subst T (sym (and-both (le lo x) (le x hi) e .1)) tt }
+inside-within {lo} {hi} {x} e =
+    record { at-least = subst T (sym (and-both (le lo x) (le x hi) e .0)) tt; at-most = subst T (sym (and-both (le lo x) (le x hi) e .1)) tt }
 
 is-true : (b : Bool) → T b → b ≡ true
 is-true true t = refl
@@ -32,7 +33,8 @@ inside-same lo hi h = ap₂ _&&_ (r-le (r-same lo) h) (r-le h (r-same hi))
 
 pub inside-opp : {x x' : Float} (l : Float) → Rel true x x' → inside (neg l) l x' ≡ inside (neg l) l x
 unfolding inside
-inside-opp {x} {x'} l h = ap₂ _&&_ (r-le-opp (record { same = refl }) h) (r-le-opp h (record { same = ap num (sym (neg-neg l)) })) ∙ and-comm (le x l) (le (neg l) x)
+inside-opp {x} {x'} l h =
+    ap₂ _&&_ (r-le-opp (record { same = refl }) h) (r-le-opp h (record { same = ap num (sym (neg-neg l)) })) ∙ and-comm (le x l) (le (neg l) x)
   where
     and-comm : (a b : Bool) → (a && b) ≡ (b && a)
     and-comm true true = refl

@@ -12,8 +12,10 @@ use Rattle.float.proofs.Exact.{round-held}
 use Rattle.float.specs.Same.{num}
 
 -- one sign and one value: one float
-same-sign : (f : Format) (s : Bool) (m n : ℕ) (e d : ℤ) → T (fits f (fin s m e)) → T (fits f (fin s n d)) → m * up e * down d ≡ n * up d * down e → fin s m e ≡ fin s n d
-same-sign f s m n e d p q v = sym (round-held f s m e p) ∙ round-same f s (m * up e) (down e) (n * up d) (down d) (down-pos e) (down-pos d) v ∙ round-held f s n d q
+same-sign : (f : Format) (s : Bool) (m n : ℕ) (e d : ℤ) → T (fits f (fin s m e)) → T (fits f (fin s n d)) → m * up e * down d ≡ n * up d * down e
+    → fin s m e ≡ fin s n d
+same-sign f s m n e d p q v =
+    sym (round-held f s m e p) ∙ round-same f s (m * up e) (down e) (n * up d) (down d) (down-pos e) (down-pos d) v ∙ round-held f s n d q
 
 -- a value of 0 is that of a zero
 is-zero : (m : ℕ) (e d : ℤ) → m * up e * down d ≡ 0 → m ≡ 0
@@ -30,12 +32,14 @@ unfolding num
 zeros-same f s t e d p q = sym (same-sign f false zero zero e d (zero-fits f s e p) (zero-fits f t d q) (simp zero-mul))
 
 -- equal values, and one sign or a value of 0
-unlike-signs : (f : Format) (s t : Bool) (m n : ℕ) (e d : ℤ) → T (fits f (fin s m e)) → T (fits f (fin t n d)) → m * up e * down d ≡ n * up d * down e → m * up e * down d ≡ 0 → num (fin t n d) ≡ num (fin s m e)
+unlike-signs : (f : Format) (s t : Bool) (m n : ℕ) (e d : ℤ) → T (fits f (fin s m e)) → T (fits f (fin t n d)) → m * up e * down d ≡ n * up d * down e
+    → m * up e * down d ≡ 0 → num (fin t n d) ≡ num (fin s m e)
 unlike-signs f s t zero zero e d p q v z = zeros-same f s t e d p q
 unlike-signs f s t (suc m) n e d p q v z = absurd (suc-ne-zero m (is-zero (suc m) e d z))
 unlike-signs f s t zero (suc n) e d p q v z = absurd (suc-ne-zero n (is-zero (suc n) d e (sym v ∙ z)))
 
-level-same : (f : Format) (s t : Bool) (m n : ℕ) (e d : ℤ) → T (fits f (fin s m e)) → T (fits f (fin t n d)) → m * up e * down d ≡ n * up d * down e → T (Bool·beq s t || eqb (m * up e * down d) 0) → num (fin t n d) ≡ num (fin s m e)
+level-same : (f : Format) (s t : Bool) (m n : ℕ) (e d : ℤ) → T (fits f (fin s m e)) → T (fits f (fin t n d)) → m * up e * down d ≡ n * up d * down e
+    → T (Bool·beq s t || eqb (m * up e * down d) 0) → num (fin t n d) ≡ num (fin s m e)
 level-same f true true m n e d p q v h = ap num (sym (same-sign f true m n e d p q v))
 level-same f false false m n e d p q v h = ap num (sym (same-sign f false m n e d p q v))
 level-same f true false m n e d p q v h = unlike-signs f true false m n e d p q v (eqb→eq _ _ h)

@@ -20,7 +20,8 @@ tie q u = le-trans (mul-le-mul-right u (one q)) (omega arith)
     one q = omega arith
 
 closest-near : (n u : ℕ) → closest n u * u * 2 ≤ n * 2 + u
-closest-near n u = subst (λ (z : ℕ). closest n u * u * 2 ≤ z * 2 + u) (div-add-mod' n u) (go (compare (n % u * 2) u) (nleb→lt (n % u * 2) u) (eqb→eq (n % u * 2) u))
+closest-near n u =
+    subst (λ (z : ℕ). closest n u * u * 2 ≤ z * 2 + u) (div-add-mod' n u) (go (compare (n % u * 2) u) (nleb→lt (n % u * 2) u) (eqb→eq (n % u * 2) u))
   where
     go : (o : Ordering) → (T (not (isLe o)) → u < n % u * 2) → (T (isEq o) → n % u * 2 ≡ u) → nearest (n / u) o * u * 2 ≤ (n / u * u + n % u) * 2 + u
     go Ordering·lt h k = below (n / u * u) (n % u) u

@@ -10,22 +10,27 @@ use native.Mathlib.Nat.{mul-pos}
 use native.Mathlib.Omega.{arith}
 use Rattle.float.proofs.Exact.{rounds-ge, rounds-le}
 use Rattle.float.proofs.Order.{Cross, finite-between, finite-number, le-self, le-trans-float, nn, not-lt→le, pp}
-use Rattle.float.proofs.Rounding.{add-mono-l, add-mono-r, div-rounds, divide-mono, mul-anti-r, mul-mono-l, mul-mono-r, mul-rounds, no-minus, no-plus, pp-pos, sub-mono}
+use Rattle.float.proofs.Rounding.{add-mono-l, add-mono-r, div-rounds, divide-mono, mul-anti-r, mul-mono-l, mul-mono-r}
+use Rattle.float.proofs.Rounding.{mul-rounds, no-minus, no-plus, pp-pos, sub-mono}
 use Rattle.float.proofs.Zeros.{le-num}
 use Rattle.float.specs.Interval.{Within}
-use Rattle.float.specs.Notation.{clamp, nought}
+use Rattle.float.specs.Notation.{clamp, zero}
 use Rattle.float.specs.Same.{num}
 
 -- ---- the products' signs
-pub mul-not-neg : (f : Format) (x y : Float) → T (finite x) → T (finite y) → T (le nought x) → T (le nought y) → T (fits f nought) → T (le nought (mul f x y))
-mul-not-neg f x y p q h k z = rounds-ge f (mul f x y) nought (pp x * pp y + nn x * nn y) (pp x * nn y + nn x * pp y) (den x * den y) tt z (mul-pos (den-pos x) (den-pos y)) (mul-rounds f x y p q)
+pub mul-not-neg : (f : Format) (x y : Float) → T (finite x) → T (finite y) → T (le zero x) → T (le zero y) → T (fits f zero) → T (le zero (mul f x y))
+mul-not-neg f x y p q h k z =
+    rounds-ge f (mul f x y) zero (pp x * pp y + nn x * nn y) (pp x * nn y + nn x * pp y) (den x * den y) tt z (mul-pos (den-pos x) (den-pos y))
+    (mul-rounds f x y p q)
     (flat (pp x) (nn x) (pp y) (nn y) (den x * den y) (no-minus x p h) (no-minus y q k))
   where
     flat : (a b c d e : ℕ) → b ≡ 0 → d ≡ 0 → Cross 0 0 1 (a * c + b * d) (a * d + b * c) e
     flat a b c d e x y = rw (x, y) (omega arith)
 
-pub mul-not-pos : (f : Format) (x y : Float) → T (finite x) → T (finite y) → T (le x nought) → T (le nought y) → T (fits f nought) → T (le (mul f x y) nought)
-mul-not-pos f x y p q h k z = rounds-le f (mul f x y) nought (pp x * pp y + nn x * nn y) (pp x * nn y + nn x * pp y) (den x * den y) tt z (mul-pos (den-pos x) (den-pos y)) (mul-rounds f x y p q)
+pub mul-not-pos : (f : Format) (x y : Float) → T (finite x) → T (finite y) → T (le x zero) → T (le zero y) → T (fits f zero) → T (le (mul f x y) zero)
+mul-not-pos f x y p q h k z =
+    rounds-le f (mul f x y) zero (pp x * pp y + nn x * nn y) (pp x * nn y + nn x * pp y) (den x * den y) tt z (mul-pos (den-pos x) (den-pos y))
+    (mul-rounds f x y p q)
     (flat (pp x) (nn x) (pp y) (nn y) (den x * den y) (no-plus x p h) (no-minus y q k))
   where
     flat : (a b c d e : ℕ) → a ≡ 0 → d ≡ 0 → Cross (a * c + b * d) (a * d + b * c) e 0 0 1
@@ -59,36 +64,49 @@ from-in f c lo hi x p q r w =
     record { at-least = sub-mono f c c hi x p p r z (le-self c p) (w .at-most); at-most = sub-mono f c c x lo p p z q (le-self c p) (w .at-least) }
 
 -- by a factor c that is not negative
-pub scale-in : (f : Format) (c lo hi x : Float) → T (finite c) → T (le nought c) → T (finite lo) → T (finite hi) → Within lo hi x → Within (mul f lo c) (mul f hi c) (mul f x c)
+pub scale-in : (f : Format) (c lo hi x : Float) → T (finite c) → T (le zero c) → T (finite lo) → T (finite hi) → Within lo hi x
+    → Within (mul f lo c) (mul f hi c) (mul f x c)
 scale-in f c lo hi x p o q r w =
     let z = within-finite lo hi x q r w in
     record { at-least = mul-mono-l f lo x c q z p o (w .at-least); at-most = mul-mono-l f x hi c z r p o (w .at-most) }
 
 -- r from rl ≤ 0 to rh ≥ 0, and q from 0 to qh
-pub mul-in : (f : Format) (rl rh r qh q : Float) → T (finite rl) → T (finite rh) → T (finite qh) → T (le rl nought) → T (le nought rh) → Within rl rh r → Within nought qh q → Within (mul f rl qh) (mul f rh qh) (mul f r q)
+pub mul-in : (f : Format) (rl rh r qh q : Float) → T (finite rl) → T (finite rh) → T (finite qh) → T (le rl zero) → T (le zero rh) → Within rl rh r
+    → Within zero qh q → Within (mul f rl qh) (mul f rh qh) (mul f r q)
 mul-in f rl rh r qh q a b c l h w v =
     let x = within-finite rl rh r a b w in
-    let y = within-finite nought qh q tt c v in
+    let y = within-finite zero qh q tt c v in
     record {
-      at-least = le-trans-float (mul f rl qh) (mul f rl q) (mul f r q) (mul-anti-r f rl qh q a c y l (v .at-most)) (mul-mono-l f rl r q a x y (v .at-least) (w .at-least));
-      at-most = le-trans-float (mul f r q) (mul f rh q) (mul f rh qh) (mul-mono-l f r rh q x b y (v .at-least) (w .at-most)) (mul-mono-r f rh q qh b y c h (v .at-most));
+      at-least =
+          le-trans-float (mul f rl qh) (mul f rl q) (mul f r q) (mul-anti-r f rl qh q a c y l (v .at-most))
+          (mul-mono-l f rl r q a x y (v .at-least) (w .at-least));
+      at-most =
+          le-trans-float (mul f r q) (mul f rh q) (mul f rh qh) (mul-mono-l f r rh q x b y (v .at-least) (w .at-most))
+          (mul-mono-r f rh q qh b y c h (v .at-most));
     }
 
 -- x from 0 to xh, and y from yl > 0
-pub div-not-neg : (f : Format) (x y : Float) → T (finite x) → T (positive y) → T (le nought x) → T (fits f nought) → T (le nought (div f x y))
-div-not-neg f x y p q o z = rounds-ge f (div f x y) nought (pp x * den y) (nn x * den y) (pp y * den x) tt z (mul-pos (pp-pos y q) (den-pos x)) (div-rounds f x y p q) (flat (pp x * den y) (nn x) (den y) (pp y * den x) (no-minus x p o))
+pub div-not-neg : (f : Format) (x y : Float) → T (finite x) → T (positive y) → T (le zero x) → T (fits f zero) → T (le zero (div f x y))
+div-not-neg f x y p q o z =
+    rounds-ge f (div f x y) zero (pp x * den y) (nn x * den y) (pp y * den x) tt z (mul-pos (pp-pos y q) (den-pos x)) (div-rounds f x y p q)
+    (flat (pp x * den y) (nn x) (den y) (pp y * den x) (no-minus x p o))
   where
     flat : (a n d c : ℕ) → n ≡ 0 → Cross 0 0 1 a (n * d) c
     flat a n d c e = rw e (omega arith)
 
-pub div-in : (f : Format) (xh x yl y : Float) → T (finite xh) → T (positive yl) → T (positive y) → T (fits f nought) → Within nought xh x → T (le yl y) → Within nought (div f xh yl) (div f x y)
+pub div-in : (f : Format) (xh x yl y : Float) → T (finite xh) → T (positive yl) → T (positive y) → T (fits f zero) → Within zero xh x → T (le yl y)
+    → Within zero (div f xh yl) (div f x y)
 div-in f xh x yl y p q r z w h =
-    let x-fin = within-finite nought xh x tt p w in
-    record { at-least = div-not-neg f x y x-fin r (w .at-least) z; at-most = divide-mono f x xh y yl x-fin p r q (w .at-least) (le-trans-float nought x xh (w .at-least) (w .at-most)) (w .at-most) h }
+    let x-fin = within-finite zero xh x tt p w in
+    record {
+      at-least = div-not-neg f x y x-fin r (w .at-least) z;
+      at-most = divide-mono f x xh y yl x-fin p r q (w .at-least) (le-trans-float zero x xh (w .at-least) (w .at-most)) (w .at-most) h;
+    }
 
 -- the sign of a zero does not matter
 pub within-num : {lo hi x y : Float} → num x ≡ num y → Within lo hi y → Within lo hi x
-within-num {lo} {hi} {x} {y} e w = record { at-least = subst T (sym (le-num lo lo x y refl e)) (w .at-least); at-most = subst T (sym (le-num x y hi hi e refl)) (w .at-most) }
+within-num {lo} {hi} {x} {y} e w =
+    record { at-least = subst T (sym (le-num lo lo x y refl e)) (w .at-least); at-most = subst T (sym (le-num x y hi hi e refl)) (w .at-most) }
 
 -- what is clamped lies between the bounds
 pub clamp-in : (lo hi x : Float) → T (finite lo) → T (finite hi) → T (le lo hi) → T (not (isNan x)) → Within lo hi (clamp lo hi x)

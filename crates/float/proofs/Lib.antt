@@ -16,4 +16,4 @@ pub mod Patterns
 pub mod Integers
 pub mod Differences
 pub mod Bounds
-pub mod Held
+pub mod Representable

@@ -1,5 +1,7 @@
--- The mirror calculus: one law of `Rel` for each operation, test and choice, and the rule set by which the mirror law of a formula is one line, `search mirror`. Assumes nothing.
-use Prim.Native.Nat.{_*_, _+_, suc, zero, ℕ}
+-- The mirror calculus: one law of `Rel` for each operation, test and choice, and the rule set by which the mirror law of a formula
+-- is one line, `search mirror`. Assumes nothing.
+use Prim.Native.Nat as Nat
+use Prim.Native.Nat.{_*_, _+_, suc, ℕ}
 use lib.Dec.{T, eqb, eqb-refl, leb·suc-zero, ltb}
 use lib.Ieee.{Float, Format, add, binary32, div, down, eq, fin, inf, isNan, le, lt, mul, nan, neg, round, sub, sum, unlike, up}
 use lib.IntN.{ℤ}
@@ -7,8 +9,9 @@ use mathlib.Core.Bool.{Bool, _&&_, _||_, cond, false, not, true}
 use mathlib.Core.Path.{_∙_, _≡_, ap, ap₂, refl, subst, sym}
 use native.Mathlib.Nat.{zero-mul}
 use Rattle.float.proofs.Sign.{div-neg-both, mul-neg-left, mul-neg-right, neg-neg, over, round-over}
-use Rattle.float.proofs.Zeros.{add-cong, add-neg, div-cong, div-neg-left, eq-comm, eq-cong, eq-neg, lt-cong, lt-neg, mul-cong, neg-cong, nonzero, nonzero-num, num-nonzero}
-use Rattle.float.specs.Notation.{atLeastZero, clamp, nought, sizeOf}
+use Rattle.float.proofs.Zeros.{add-cong, add-neg, div-cong, div-neg-left, eq-comm, eq-cong, eq-neg, lt-cong, lt-neg}
+use Rattle.float.proofs.Zeros.{mul-cong, neg-cong, nonzero, nonzero-num, num-nonzero}
+use Rattle.float.specs.Notation.{atLeastZero, clamp, zero, abs}
 use Rattle.float.specs.Same.{Rel, flip, num}
 
 -- the sign is +, or it is a NaN
@@ -72,7 +75,7 @@ unfolding neg
 nonzero-flip false x = refl
 nonzero-flip true nan = refl
 nonzero-flip true (inf s) = refl
-nonzero-flip true (fin s zero e) = refl
+nonzero-flip true (fin s Nat.zero e) = refl
 nonzero-flip true (fin s (suc m) e) = refl
 
 -- what is no zero is the same as data
@@ -82,7 +85,11 @@ exact {p} {x} {y} h n =
     sym (num-nonzero y (subst T (sym b) n)) ∙ h .same ∙ num-nonzero (flip p x) (subst T (sym (nonzero-flip p x)) n)
 
 pub r-div-by : {p q : Bool} {x x' y y' : Float} → Rel p x x' → Rel q y y' → T (nonzero y) → Rel (unlike p q) (div binary32 x y) (div binary32 x' y')
-r-div-by {p} {q} {x} {x'} {y} {y'} h k n = record { same = ap (λ (z : Float). num (div binary32 x' z)) (exact k n) ∙ div-cong binary32 x' (flip p x) (flip q y) (h .same) ∙ div-flip p q x y }
+r-div-by {p} {q} {x} {x'} {y} {y'} h k n =
+    record {
+      same = ap (λ (z : Float). num (div binary32 x' z)) (exact k n) ∙ div-cong binary32 x' (flip p x) (flip q y) (h .same)
+          ∙ div-flip p q x y;
+    }
 
 -- ---- tests
 pub r-lt : {x x' y y' : Float} → Rel false x x' → Rel false y y' → lt x' y' ≡ lt x y
@@ -140,7 +147,7 @@ pub r-is : {x y : Float} → y ≡ x → Rel false x y
 r-is e = record { same = ap num e }
 
 -- ---- zero is its own negation
-pub r-zero : (p s t : Bool) (e : ℤ) → Rel p (fin s zero e) (fin t zero e)
+pub r-zero : (p s t : Bool) (e : ℤ) → Rel p (fin s Nat.zero e) (fin t Nat.zero e)
 unfolding num neg
 r-zero true s t e = record { same = refl }
 r-zero false s t e = record { same = refl }
@@ -178,41 +185,42 @@ nonzero-above nan y p h = absurd h
 nonzero-above (inf true) y p h = absurd p
 nonzero-above (inf false) nan p h = tt
 nonzero-above (inf false) (inf t) p h = tt
-nonzero-above (inf false) (fin t zero d) p h = absurd h
+nonzero-above (inf false) (fin t Nat.zero d) p h = absurd h
 nonzero-above (inf false) (fin t (suc n) d) p h = tt
 nonzero-above (fin true m e) y p h = absurd p
 nonzero-above (fin false m e) nan p h = tt
 nonzero-above (fin false m e) (inf t) p h = tt
-nonzero-above (fin false m e) (fin true zero d) p h = absurd h
-nonzero-above (fin false m e) (fin false zero d) p h = absurd (subst T (ap (λ (z : ℕ). ltb (m * up e * down d) z) (simp zero-mul) ∙ leb·suc-zero (m * up e * down d)) h)
+nonzero-above (fin false m e) (fin true Nat.zero d) p h = absurd h
+nonzero-above (fin false m e) (fin false Nat.zero d) p h =
+    absurd (subst T (ap (λ (z : ℕ). ltb (m * up e * down d) z) (simp zero-mul) ∙ leb·suc-zero (m * up e * down d)) h)
 nonzero-above (fin false m e) (fin t (suc n) d) p h = tt
 
-sizeOf-num : (x : Float) → sizeOf (num x) ≡ sizeOf x
-unfolding sizeOf num
-sizeOf-num nan = refl
-sizeOf-num (inf s) = refl
-sizeOf-num (fin s zero e) = refl
-sizeOf-num (fin s (suc m) e) = refl
+abs-num : (x : Float) → abs (num x) ≡ abs x
+unfolding abs num
+abs-num nan = refl
+abs-num (inf s) = refl
+abs-num (fin s Nat.zero e) = refl
+abs-num (fin s (suc m) e) = refl
 
-sizeOf-flip : (p : Bool) (x : Float) → sizeOf (flip p x) ≡ sizeOf x
-unfolding sizeOf neg
-sizeOf-flip false x = refl
-sizeOf-flip true nan = refl
-sizeOf-flip true (inf s) = refl
-sizeOf-flip true (fin s zero e) = refl
-sizeOf-flip true (fin s (suc m) e) = refl
+abs-flip : (p : Bool) (x : Float) → abs (flip p x) ≡ abs x
+unfolding abs neg
+abs-flip false x = refl
+abs-flip true nan = refl
+abs-flip true (inf s) = refl
+abs-flip true (fin s Nat.zero e) = refl
+abs-flip true (fin s (suc m) e) = refl
 
 -- the same number and the opposite one have one size, as data
-pub size-is : {p : Bool} {x x' : Float} → Rel p x x' → sizeOf x' ≡ sizeOf x
-size-is {p} {x} {x'} h = sym (sizeOf-num x') ∙ ap sizeOf (h .same) ∙ sizeOf-num (flip p x) ∙ sizeOf-flip p x
+pub size-is : {p : Bool} {x x' : Float} → Rel p x x' → abs x' ≡ abs x
+size-is {p} {x} {x'} h = sym (abs-num x') ∙ ap abs (h .same) ∙ abs-num (flip p x) ∙ abs-flip p x
 
-pub r-size : {p : Bool} {x x' : Float} → Rel p x x' → Rel false (sizeOf x) (sizeOf x')
+pub r-size : {p : Bool} {x x' : Float} → Rel p x x' → Rel false (abs x) (abs x')
 r-size h = r-is (size-is h)
 
 -- max(a, 0)
 pub r-at-least-zero : {x x' : Float} → Rel false x x' → Rel false (atLeastZero x) (atLeastZero x')
 unfolding atLeastZero
-r-at-least-zero {x} {x'} h = r-cond (lt nought x) (lt nought x') (r-lt (r-same nought) h) h (r-same nought)
+r-at-least-zero {x} {x'} h = r-cond (lt zero x) (lt zero x') (r-lt (r-same zero) h) h (r-same zero)
 
 -- ---- a clamp to [-l, l]
 -- above l and below -l: not both
@@ -241,7 +249,10 @@ unfolding clamp
 r-clamp {x} {x'} l p h =
     let a : lt l x' ≡ lt x (neg l) = lt-cong l (neg (neg l)) x' (neg x) (ap num (sym (neg-neg l))) (h .same) ∙ lt-neg (neg l) x in
     let b : lt x' (neg l) ≡ lt l x = lt-cong x' (neg x) (neg l) (neg l) (h .same) refl ∙ lt-neg x l in
-    record { same = ap₂ (λ (u v : Bool). num (cond u (neg l) (cond v l x'))) b a ∙ go (lt l x) (lt x (neg l)) ∙ ap num (sym (pick (lt l x) (lt x (neg l)) l x (apart l x p))) }
+    record {
+      same = ap₂ (λ (u v : Bool). num (cond u (neg l) (cond v l x'))) b a ∙ go (lt l x) (lt x (neg l))
+          ∙ ap num (sym (pick (lt l x) (lt x (neg l)) l x (apart l x p)));
+    }
   where
     go : (u v : Bool) → num (cond u (neg l) (cond v l x')) ≡ num (cond u (neg l) (cond v l (neg x)))
     go true v = refl
@@ -259,7 +270,7 @@ unfolding num
 num-plus nan h = refl
 num-plus (inf s) h = refl
 num-plus (fin true m e) h = absurd h
-num-plus (fin false zero e) h = refl
+num-plus (fin false Nat.zero e) h = refl
 num-plus (fin false (suc m) e) h = refl
 
 pub exact-plus : {x y : Float} → Rel false x y → T (plusSign x) → T (plusSign y) → y ≡ x
@@ -312,7 +323,7 @@ isNan-num : (x : Float) → isNan (num x) ≡ isNan x
 unfolding isNan num
 isNan-num nan = refl
 isNan-num (inf s) = refl
-isNan-num (fin s zero e) = refl
+isNan-num (fin s Nat.zero e) = refl
 isNan-num (fin s (suc m) e) = refl
 
 isNan-flip : (p : Bool) (x : Float) → isNan (flip p x) ≡ isNan x
@@ -331,11 +342,39 @@ rel-equal {p} {x} {y} h n = eq-cong y (flip p x) (flip p x) (flip p x) (h .same)
 -- max(a, 0) of the same number is the same as data: what is above 0 is no zero, and else it is +0
 pub at-least-zero-is : {x x' : Float} → Rel false x x' → atLeastZero x' ≡ atLeastZero x
 unfolding atLeastZero
-at-least-zero-is {x} {x'} h = rw (r-lt (r-same nought) h) (go (lt nought x) (λ t. nonzero-above nought x tt t))
+at-least-zero-is {x} {x'} h = rw (r-lt (r-same zero) h) (go (lt zero x) (λ t. nonzero-above zero x tt t))
   where
-    go : (b : Bool) → (T b → T (nonzero x)) → cond b x' nought ≡ cond b x nought
+    go : (b : Bool) → (T b → T (nonzero x)) → cond b x' zero ≡ cond b x zero
     go true n = exact h (n tt)
     go false n = refl
 
 -- the rule set
-pub ruleset mirror = (tt, r-same, r-zero, r-add, r-sub, r-neg, mul-ss, mul-oo, mul-so, mul-os, r-div, div-ss, div-oo, div-so, div-os, nonzero-above, r-if, r-lt, r-lt-opp, r-le, r-le-opp, r-eq, same-and, same-or, same-not, r-size, r-at-least-zero)
+pub ruleset mirror = (
+  tt,
+  r-same,
+  r-zero,
+  r-add,
+  r-sub,
+  r-neg,
+  mul-ss,
+  mul-oo,
+  mul-so,
+  mul-os,
+  r-div,
+  div-ss,
+  div-oo,
+  div-so,
+  div-os,
+  nonzero-above,
+  r-if,
+  r-lt,
+  r-lt-opp,
+  r-le,
+  r-le-opp,
+  r-eq,
+  same-and,
+  same-or,
+  same-not,
+  r-size,
+  r-at-least-zero,
+)

@@ -1,4 +1,4 @@
--- The order of floats: of finite values as fractions (pp - nn) / den, of all values by `le` and `lt`; it turns round under `neg`. Assumes nothing.
+-- The order of floats: of finite values as fractions (pp - nn) / den, of all values by `le` and `lt`; it is reversed under `neg`. Assumes nothing.
 use Prim.Native.Nat.{_*_, _+_, _<_, _≤_, ℕ}
 use lib.Dec.{T, T-not, eqb, eqb-refl, eqb→eq, leb, leb→le, ltb, ltb→lt, lt→ltb, nleb→lt, nltb→le, not-T}
 use lib.Ieee.{Float, below, down, eq, fin, inf, isNan, le, level, lt, nan, ne, neg, up}
@@ -38,10 +38,15 @@ or-e false b t = inr t
 
 -- ---- the order of two finite values, by their parts
 sle→ : (s : Bool) (a : ℕ) (t : Bool) (b : ℕ) → T (below s a t b || level s a t b) → cond s 0 a + cond t b 0 ≤ cond t 0 b + cond s a 0
-sle→ false a false b h = elim (or-e (ltb a b) (level false a false b) h) [ inl u ↦ omega (arith, ltb→lt a b u) | inr u ↦ omega (arith, eqb→eq a b (and-l (eqb a b) true u)) ]
+sle→ false a false b h =
+    elim (or-e (ltb a b) (level false a false b) h) [
+      | inl u ↦ omega (arith, ltb→lt a b u)
+      | inr u ↦ omega (arith, eqb→eq a b (and-l (eqb a b) true u))
+    ]
 sle→ false a true b h = omega (arith, eqb→eq a b (and-l (eqb a b) (eqb a 0) h), eqb→eq a 0 (and-r (eqb a b) (eqb a 0) h))
 sle→ true a false b h = omega arith
-sle→ true a true b h = elim (or-e (ltb b a) (level true a true b) h) [ inl u ↦ omega (arith, ltb→lt b a u) | inr u ↦ omega (arith, eqb→eq a b (and-l (eqb a b) true u)) ]
+sle→ true a true b h =
+    elim (or-e (ltb b a) (level true a true b) h) [ inl u ↦ omega (arith, ltb→lt b a u) | inr u ↦ omega (arith, eqb→eq a b (and-l (eqb a b) true u)) ]
 
 both-zero : (a b : ℕ) → a ≡ 0 → b ≡ 0 → T (eqb a b && eqb a 0)
 both-zero a b x y = and-i (eqb a b) (eqb a 0) (eq→eqb (x ∙ sym y)) (eq→eqb x)
@@ -56,7 +61,8 @@ sle← false a false b h =
     or-i (ltb a b) (level false a false b) (elim (eq-or-lt-of-le k) [ inl e ↦ inr (and-true (eqb a b) (eq→eqb e)) | inr l ↦ inl (lt→ltb a b l) ])
 sle← false a true b h = both-zero a b (omega arith) (omega arith)
 sle← true a false b h =
-    or-i (ltb 0 (a + b)) (level true a false b) (elim (eq-zero-or-pos (a + b)) [ inl z ↦ inr (both-zero a b (omega (arith, z)) (omega (arith, z))) | inr l ↦ inl (lt→ltb 0 (a + b) l) ])
+    or-i (ltb 0 (a + b)) (level true a false b)
+    (elim (eq-zero-or-pos (a + b)) [ inl z ↦ inr (both-zero a b (omega (arith, z)) (omega (arith, z))) | inr l ↦ inl (lt→ltb 0 (a + b) l) ])
 sle← true a true b h =
     let k : b ≤ a = omega arith in
     or-i (ltb b a) (level true a true b) (elim (eq-or-lt-of-le k) [ inl e ↦ inr (and-true (eqb a b) (eq→eqb (sym e))) | inr l ↦ inl (lt→ltb b a l) ])
@@ -97,10 +103,16 @@ le→not-lt nan y p q h = absurd p
 le→not-lt (inf s) y p q h = absurd p
 le→not-lt (fin s m e) nan p q h = absurd q
 le→not-lt (fin s m e) (inf t) p q h = absurd q
-le→not-lt (fin false m e) (fin false n d) p q h = not-T (below false (m * up e * down d) false (n * up d * down e)) (λ t. omega (arith, slt→ false (m * up e * down d) false (n * up d * down e) t, le→cross (fin false n d) (fin false m e) tt tt h))
+le→not-lt (fin false m e) (fin false n d) p q h =
+    not-T (below false (m * up e * down d) false (n * up d * down e))
+    (λ t. omega (arith, slt→ false (m * up e * down d) false (n * up d * down e) t, le→cross (fin false n d) (fin false m e) tt tt h))
 le→not-lt (fin false m e) (fin true n d) p q h = tt
-le→not-lt (fin true m e) (fin false n d) p q h = not-T (below true (m * up e * down d) false (n * up d * down e)) (λ t. omega (arith, slt→ true (m * up e * down d) false (n * up d * down e) t, le→cross (fin false n d) (fin true m e) tt tt h))
-le→not-lt (fin true m e) (fin true n d) p q h = not-T (below true (m * up e * down d) true (n * up d * down e)) (λ t. omega (arith, slt→ true (m * up e * down d) true (n * up d * down e) t, le→cross (fin true n d) (fin true m e) tt tt h))
+le→not-lt (fin true m e) (fin false n d) p q h =
+    not-T (below true (m * up e * down d) false (n * up d * down e))
+    (λ t. omega (arith, slt→ true (m * up e * down d) false (n * up d * down e) t, le→cross (fin false n d) (fin true m e) tt tt h))
+le→not-lt (fin true m e) (fin true n d) p q h =
+    not-T (below true (m * up e * down d) true (n * up d * down e))
+    (λ t. omega (arith, slt→ true (m * up e * down d) true (n * up d * down e) t, le→cross (fin true n d) (fin true m e) tt tt h))
 
 snlt→ : (s : Bool) (a : ℕ) (t : Bool) (b : ℕ) → T (not (below s a t b)) → cond t 0 b + cond s a 0 ≤ cond s 0 a + cond t b 0
 snlt→ false a false b h = omega (arith, nltb→le a b h)
@@ -126,10 +138,13 @@ not-lt→le (inf false) (fin t n d) p q h = tt
 not-lt→le (inf true) (fin t n d) p q h = absurd h
 not-lt→le (fin s m e) (inf false) p q h = absurd h
 not-lt→le (fin s m e) (inf true) p q h = tt
-not-lt→le (fin false m e) (fin false n d) p q h = cross→le (fin false n d) (fin false m e) tt tt (omega (arith, snlt→ false (m * up e * down d) false (n * up d * down e) h))
+not-lt→le (fin false m e) (fin false n d) p q h =
+    cross→le (fin false n d) (fin false m e) tt tt (omega (arith, snlt→ false (m * up e * down d) false (n * up d * down e) h))
 not-lt→le (fin false m e) (fin true n d) p q h = cross→le (fin true n d) (fin false m e) tt tt (omega arith)
-not-lt→le (fin true m e) (fin false n d) p q h = cross→le (fin false n d) (fin true m e) tt tt (omega (arith, snlt→ true (m * up e * down d) false (n * up d * down e) h))
-not-lt→le (fin true m e) (fin true n d) p q h = cross→le (fin true n d) (fin true m e) tt tt (omega (arith, snlt→ true (m * up e * down d) true (n * up d * down e) h))
+not-lt→le (fin true m e) (fin false n d) p q h =
+    cross→le (fin false n d) (fin true m e) tt tt (omega (arith, snlt→ true (m * up e * down d) false (n * up d * down e) h))
+not-lt→le (fin true m e) (fin true n d) p q h =
+    cross→le (fin true n d) (fin true m e) tt tt (omega (arith, snlt→ true (m * up e * down d) true (n * up d * down e) h))
 
 pub cross-trans : (p n c q m d r l g : ℕ) → 0 < d → Cross p n c q m d → Cross q m d r l g → Cross p n c r l g
 cross-trans p n c q m d r l g D h k = le-of-mul-le-mul-right {k = d} (omega (arith, mul-le-mul-right g h, mul-le-mul-right c k)) D
@@ -185,7 +200,7 @@ finite-between (fin s m e) (inf false) (inf t) p q h k = absurd q
 finite-between (fin s m e) (inf false) (fin t n d) p q h k = absurd k
 finite-between (fin s m e) (fin t n d) hi p q h k = tt
 
--- ---- the order turns round under `neg`
+-- ---- the order is reversed under `neg`
 pub le-neg : (x y : Float) → T (le x y) → T (le (neg y) (neg x))
 unfolding le neg
 le-neg nan y h = absurd h
@@ -225,9 +240,12 @@ le-self x p = cross→le x x p p (le-refl _)
 
 -- ---- the order is total on finite values
 pub le-or-ge : (x y : Float) → T (finite x) → T (finite y) → T (le x y) ⊎ T (le y x)
-le-or-ge x y p q = go (leb (pp x * den y + nn y * den x) (pp y * den x + nn x * den y)) (leb→le (pp x * den y + nn y * den x) (pp y * den x + nn x * den y)) (nleb→lt (pp x * den y + nn y * den x) (pp y * den x + nn x * den y))
+le-or-ge x y p q =
+    go (leb (pp x * den y + nn y * den x) (pp y * den x + nn x * den y)) (leb→le (pp x * den y + nn y * den x) (pp y * den x + nn x * den y))
+    (nleb→lt (pp x * den y + nn y * den x) (pp y * den x + nn x * den y))
   where
-    go : (b : Bool) → (T b → pp x * den y + nn y * den x ≤ pp y * den x + nn x * den y) → (T (not b) → pp y * den x + nn x * den y < pp x * den y + nn y * den x) → T (le x y) ⊎ T (le y x)
+    go : (b : Bool) → (T b → pp x * den y + nn y * den x ≤ pp y * den x + nn x * den y)
+        → (T (not b) → pp y * den x + nn x * den y < pp x * den y + nn y * den x) → T (le x y) ⊎ T (le y x)
     go true h k = inl (cross→le x y p q (h tt))
     go false h k = inr (cross→le y x q p (le-of-lt (k tt)))
 
@@ -243,8 +261,14 @@ unfolding isNan ne
 number-same nan p = p
 number-same (inf true) p = tt
 number-same (inf false) p = tt
-number-same (fin true m e) p = not-T (not (eqb (m * up e * down e) (m * up e * down e) && true)) (λ t. T-not (eqb (m * up e * down e) (m * up e * down e) && true) t (and-i (eqb (m * up e * down e) (m * up e * down e)) true (eqb-refl (m * up e * down e)) tt))
-number-same (fin false m e) p = not-T (not (eqb (m * up e * down e) (m * up e * down e) && true)) (λ t. T-not (eqb (m * up e * down e) (m * up e * down e) && true) t (and-i (eqb (m * up e * down e) (m * up e * down e)) true (eqb-refl (m * up e * down e)) tt))
+number-same (fin true m e) p =
+    not-T (not (eqb (m * up e * down e) (m * up e * down e) && true))
+    (λ t. T-not (eqb (m * up e * down e) (m * up e * down e) && true) t
+    (and-i (eqb (m * up e * down e) (m * up e * down e)) true (eqb-refl (m * up e * down e)) tt))
+number-same (fin false m e) p =
+    not-T (not (eqb (m * up e * down e) (m * up e * down e) && true))
+    (λ t. T-not (eqb (m * up e * down e) (m * up e * down e) && true) t
+    (and-i (eqb (m * up e * down e) (m * up e * down e)) true (eqb-refl (m * up e * down e)) tt))
 
 pub same-number : (t : Float) → T (not (ne t t)) → T (not (isNan t))
 unfolding ne isNan
@@ -261,7 +285,9 @@ pub not-le→lt : (x y : Float) → T (not (isNan x)) → T (not (isNan y)) → 
 not-le→lt x y p q n = by-contra (lt y x) (λ k. T-not (le x y) n (not-lt→le y x q p k))
 
 pub le-lt : (x y z : Float) → T (finite x) → T (finite y) → T (finite z) → T (le x y) → T (lt y z) → T (lt x z)
-le-lt x y z p q r h k = by-contra (lt x z) (λ n. T-not (lt y z) (le→not-lt y z q r (le-trans-float z x y (not-lt→le x z (finite-number x p) (finite-number z r) n) h)) k)
+le-lt x y z p q r h k =
+    by-contra (lt x z) (λ n. T-not (lt y z) (le→not-lt y z q r (le-trans-float z x y (not-lt→le x z (finite-number x p) (finite-number z r) n) h)) k)
 
 pub lt-le : (x y z : Float) → T (finite x) → T (finite y) → T (finite z) → T (lt x y) → T (le y z) → T (lt x z)
-lt-le x y z p q r h k = by-contra (lt x z) (λ n. T-not (lt x y) (le→not-lt x y p q (le-trans-float y z x k (not-lt→le x z (finite-number x p) (finite-number z r) n))) h)
+lt-le x y z p q r h k =
+    by-contra (lt x z) (λ n. T-not (lt x y) (le→not-lt x y p q (le-trans-float y z x k (not-lt→le x z (finite-number x p) (finite-number z r) n))) h)

@@ -46,7 +46,9 @@ differ x h e = omega arith
 
 under-ones : (t x : ℕ) → suc x < 255 → ofFields binary32 false (suc x) t ≡ odd 24 false (8388608 + t) x 149
 unfolding ofFields
-under-ones t x h = cond-no (eqb (suc x) 255) (cond (eqb t 0) (inf false) nan) (odd 24 false (8388608 + t) x 149) (not-T (eqb (suc x) 255) (λ (u : T (eqb (suc x) 255)). differ x h (eqb→eq (suc x) 255 u)))
+under-ones t x h =
+    cond-no (eqb (suc x) 255) (cond (eqb t 0) (inf false) nan) (odd 24 false (8388608 + t) x 149)
+    (not-T (eqb (suc x) 255) (λ (u : T (eqb (suc x) 255)). differ x h (eqb→eq (suc x) 255 u)))
 
 -- the field x + 1, the digits t
 pub normal : (x t b : ℕ) → suc x < 255 → t < 8388608 → b ≡ suc x * 8388608 + t → ofBits binary32 b ≡ odd 24 false (8388608 + t) x 149

@@ -1,4 +1,5 @@
--- Signs, as data: what `neg` does to a rounding, a product and a quotient, that sums and products commute, and that a rounding with the sign + has it. Assumes nothing.
+-- Signs, as data: what `neg` does to a rounding, a product and a quotient, that sums and products commute, and that a rounding with
+-- the sign + has it. Assumes nothing.
 use Prim.Native.Nat.{_*_, _+_, _-_, _<_, _^_, _≤_, suc, zero, ℕ}
 use lib.Dec.{T, eqb, ltb, ltb→lt, nltb→le}
 use lib.Ieee.{Float, Format, add, div, down, emax, fin, inf, low, mul, nan, neg, odd, prec, round, sum, units, unlike, up}
@@ -49,7 +50,8 @@ sum-comm f s a t b c = go s t (ltb a b) (ltb b a) (ltb→lt a b) (ltb→lt b a) 
     level-off h k = omega arith
 
     go : (s t y z : Bool) → (T y → a < b) → (T z → b < a) → (T (not y) → b ≤ a) → (T (not z) → a ≤ b)
-        → cond (Bool·beq s t) (round f s (a + b) c) (cond y (round f t (b - a) c) (round f (s && z) (a - b) c)) ≡ cond (Bool·beq t s) (round f t (b + a) c) (cond z (round f s (a - b) c) (round f (t && y) (b - a) c))
+        → cond (Bool·beq s t) (round f s (a + b) c) (cond y (round f t (b - a) c) (round f (s && z) (a - b) c)) ≡ cond (Bool·beq t s)
+        (round f t (b + a) c) (cond z (round f s (a - b) c) (round f (t && y) (b - a) c))
     go true true y z g h k l = rw (add-comm a b)
     go false false y z g h k l = rw (add-comm a b)
     go true false true true g h k l = absurd (clash a b (g tt) (h tt))
@@ -74,7 +76,9 @@ add-comm-exact f (inf false) (inf false) = refl
 add-comm-exact f (inf s) (fin t n d) = refl
 add-comm-exact f (fin s m e) nan = refl
 add-comm-exact f (fin s m e) (inf t) = refl
-add-comm-exact f (fin s m e) (fin t n d) = sum-comm f s (m * up e * down d) t (n * up d * down e) (down e * down d) ∙ ap (λ (c : ℕ). sum f t (n * up d * down e) s (m * up e * down d) c) (mul-comm (down e) (down d))
+add-comm-exact f (fin s m e) (fin t n d) =
+    sum-comm f s (m * up e * down d) t (n * up d * down e) (down e * down d)
+    ∙ ap (λ (c : ℕ). sum f t (n * up d * down e) s (m * up e * down d) c) (mul-comm (down e) (down d))
 
 -- ---- the product
 unlike-comm : (s t : Bool) → unlike s t ≡ unlike t s
@@ -114,7 +118,9 @@ mul-neg-left f (inf s) (inf t) = ap inf (unlike-not s t)
 mul-neg-left f (inf s) (fin t n d) = ap (λ (w : Bool). cond (eqb n 0) nan (inf w)) (unlike-not s t) ∙ sym (neg-cond (eqb n 0) (unlike s t))
 mul-neg-left f (fin s m e) nan = refl
 mul-neg-left f (fin s m e) (inf t) = ap (λ (w : Bool). cond (eqb m 0) nan (inf w)) (unlike-not s t) ∙ sym (neg-cond (eqb m 0) (unlike s t))
-mul-neg-left f (fin s m e) (fin t n d) = ap (λ (w : Bool). round f w (m * up e * (n * up d)) (down e * down d)) (unlike-not s t) ∙ sym (round-neg f (unlike s t) (m * up e * (n * up d)) (down e * down d))
+mul-neg-left f (fin s m e) (fin t n d) =
+    ap (λ (w : Bool). round f w (m * up e * (n * up d)) (down e * down d)) (unlike-not s t)
+    ∙ sym (round-neg f (unlike s t) (m * up e * (n * up d)) (down e * down d))
 
 pub mul-neg-right : (f : Format) (x y : Float) → mul f x (neg y) ≡ neg (mul f x y)
 mul-neg-right f x y = mul-comm-exact f x (neg y) ∙ mul-neg-left f y x ∙ ap neg (mul-comm-exact f y x)

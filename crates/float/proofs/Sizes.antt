@@ -1,5 +1,6 @@
 -- How large results can be: |x| ≤ 2 ^ n through sums, products and quotients, each rounded. What is asked of the powers is computed. Assumes nothing.
-use Prim.Native.Nat.{_*_, _+_, suc, zero, ℕ}
+use Prim.Native.Nat as Nat
+use Prim.Native.Nat.{_*_, _+_, suc, ℕ}
 use lib.Dec.{T, eqb·suc-zero}
 use lib.Ieee.{Float, add, binary32, div, down, eq, fin, fits, inf, isNan, le, lt, mul, nan, neg, round, sub, unlike, up}
 use lib.Ieee.Positive.{den, den-pos, positive}
@@ -18,7 +19,7 @@ use Rattle.float.proofs.Rounding.{add-mono, add-rounds, div-rounds, mul
 use Rattle.float.proofs.Sign.{add-comm-exact, mul-neg-left, mul-neg-right, neg-neg, over, round-minus, round-over}
 use Rattle.float.proofs.Zeros.{le-num}
 use Rattle.float.specs.Interval.{Within}
-use Rattle.float.specs.Notation.{nought}
+use Rattle.float.specs.Notation.{zero}
 use Rattle.float.specs.Same.{num}
 
 -- 2 ^ n
@@ -54,8 +55,11 @@ sized-add {n} {m} {x} {y} k s t h =
       within = record {
         at-least = le-trans-float (neg (twoTo k)) (neg (add binary32 a b)) (add binary32 x y) (le-neg (add binary32 a b) (twoTo k) h)
             (le-trans-float (neg (add binary32 a b)) (add binary32 (neg a) (neg b)) (add binary32 x y) (neg-add binary32 a b tt tt)
-            (add-mono binary32 (neg a) x (neg b) y (neg-finite a tt) (sized-finite s) (neg-finite b tt) (sized-finite t) (s .within .at-least) (t .within .at-least)));
-        at-most = le-trans-float (add binary32 x y) (add binary32 a b) (twoTo k) (add-mono binary32 x a y b (sized-finite s) tt (sized-finite t) tt (s .within .at-most) (t .within .at-most)) h;
+            (add-mono binary32 (neg a) x (neg b) y (neg-finite a tt) (sized-finite s) (neg-finite b tt) (sized-finite t) (s .within .at-least)
+            (t .within .at-least)));
+        at-most =
+            le-trans-float (add binary32 x y) (add binary32 a b) (twoTo k)
+            (add-mono binary32 x a y b (sized-finite s) tt (sized-finite t) tt (s .within .at-most) (t .within .at-most)) h;
       };
     }
 
@@ -64,28 +68,35 @@ unfolding sub
 sized-sub k s t h = sized-add k s (sized-neg t) h
 
 -- ---- a product
-not-neg : (n : ℕ) → T (le nought (twoTo n))
-not-neg n = cross→le nought (twoTo n) tt tt (omega arith)
+not-neg : (n : ℕ) → T (le zero (twoTo n))
+not-neg n = cross→le zero (twoTo n) tt tt (omega arith)
 
 -- by a factor that is not negative
-scaled : {n m : ℕ} {x y : Float} (k : ℕ) → T (le (mul binary32 (twoTo n) (twoTo m)) (twoTo k)) → T (le nought y) → Sized n x → Sized m y → Sized k (mul binary32 x y)
+scaled : {n m : ℕ} {x y : Float} (k : ℕ) → T (le (mul binary32 (twoTo n) (twoTo m)) (twoTo k)) → T (le zero y) → Sized n x → Sized m y
+    → Sized k (mul binary32 x y)
 scaled {n} {m} {x} {y} k h o s t =
     let a = twoTo n in
     let b = twoTo m in
     let low : T (le (neg (twoTo k)) (mul binary32 (neg a) b)) = rw (mul-neg-left binary32 a b) (le-neg (mul binary32 a b) (twoTo k) h) in
     let ends : Within (mul binary32 (neg a) b) (mul binary32 a b) (mul binary32 x y) =
-    mul-in binary32 (neg a) a x b y (neg-finite a tt) tt tt (over-le a nought tt tt) (not-neg n) (s .within) (record { at-least = o; at-most = t .within .at-most }) in
+    mul-in binary32 (neg a) a x b y (neg-finite a tt) tt tt (over-le a zero tt tt) (not-neg n) (s .within)
+    (record { at-least = o; at-most = t .within .at-most }) in
     record { within = within-wider (mul binary32 (neg a) b) (mul binary32 a b) (neg (twoTo k)) (twoTo k) (mul binary32 x y) low h ends }
 
-pub turned : (x y : Float) → mul binary32 (neg x) (neg y) ≡ mul binary32 x y
-turned x y = mul-neg-left binary32 x (neg y) ∙ ap neg (mul-neg-right binary32 x y) ∙ neg-neg (mul binary32 x y)
+pub neg-mul-neg : (x y : Float) → mul binary32 (neg x) (neg y) ≡ mul binary32 x y
+neg-mul-neg x y = mul-neg-left binary32 x (neg y) ∙ ap neg (mul-neg-right binary32 x y) ∙ neg-neg (mul binary32 x y)
 
-pub above : (y : Float) → T (le y nought) → T (le nought (neg y))
+pub above : (y : Float) → T (le y zero) → T (le zero (neg y))
 unfolding num
-above y h = subst T (le-num (neg nought) nought (neg y) (neg y) (unfold neg in refl) refl) (le-neg y nought h)
+above y h = subst T (le-num (neg zero) zero (neg y) (neg y) (unfold neg in refl) refl) (le-neg y zero h)
 
 pub sized-mul : {n m : ℕ} {x y : Float} (k : ℕ) → Sized n x → Sized m y → T (le (mul binary32 (twoTo n) (twoTo m)) (twoTo k)) → Sized k (mul binary32 x y)
-sized-mul {n} {m} {x} {y} k s t h = elim (le-or-ge nought y tt (sized-finite t)) [ inl o ↦ scaled k h o s t | inr o ↦ subst (Sized k) (turned x y) (scaled k h (above y o) (sized-neg s) (sized-neg t)) ]
+sized-mul {n} {m} {x} {y} k s t h =
+    elim (le-or-ge zero y tt (sized-finite t)) [
+      | inl o ↦ scaled k h o s t
+      | inr o ↦ subst (Sized k) (neg-mul-neg x y)
+          (scaled k h (above y o) (sized-neg s) (sized-neg t))
+    ]
 
 -- ---- a quotient by what is no smaller is at most 1
 pub ratio-sized : (x y : Float) → T (finite x) → T (positive y) → T (le (neg y) x) → T (le x y) → Sized 0 (div binary32 x y)
@@ -97,9 +108,13 @@ ratio-sized x (fin false m e) p q l h =
     let c = mul-pos (pp-pos y q) (den-pos x) in
     record {
       within = record {
-        at-least = unfold neg in rounds-ge binary32 (div binary32 x y) (fin true 1 (pos 0)) (pp x * den y) (nn x * den y) (pp y * den x) tt (unfold fits in tt) c (div-rounds binary32 x y p q)
+        at-least =
+            unfold neg in rounds-ge binary32 (div binary32 x y) (fin true 1 (pos 0)) (pp x * den y) (nn x * den y) (pp y * den x) tt
+            (unfold fits in tt) c (div-rounds binary32 x y p q)
             (low (pp x) (nn x) (den x) (pp y) (den y) (unfold neg in le→cross (neg y) x tt p l));
-        at-most = rounds-le binary32 (div binary32 x y) (twoTo 0) (pp x * den y) (nn x * den y) (pp y * den x) tt (unfold fits in tt) c (div-rounds binary32 x y p q)
+        at-most =
+            rounds-le binary32 (div binary32 x y) (twoTo 0) (pp x * den y) (nn x * den y) (pp y * den x) tt (unfold fits in tt) c
+            (div-rounds binary32 x y p q)
             (high (pp x) (nn x) (den x) (pp y) (den y) (le→cross x y p tt h));
       };
     }
@@ -127,7 +142,8 @@ first-part (fin s m e) (fin false n d) c p q f h =
     let x = fin s m e in
     let y = fin false n d in
     le-trans-float x (add binary32 x y) c
-    (rounds-ge binary32 (add binary32 x y) x (pp x * den y + pp y * den x) (nn x * den y + nn y * den x) (den x * den y) tt f (mul-pos (den-pos x) (den-pos y)) (add-rounds binary32 x y tt tt) (more (pp x) (nn x) (den x) (pp y) (den y))) h
+    (rounds-ge binary32 (add binary32 x y) x (pp x * den y + pp y * den x) (nn x * den y + nn y * den x) (den x * den y) tt f
+    (mul-pos (den-pos x) (den-pos y)) (add-rounds binary32 x y tt tt) (more (pp x) (nn x) (den x) (pp y) (den y))) h
   where
     more : (P N D q d : ℕ) → Cross P N D (P * d + q * D) (N * d + 0 * D) (D * d)
     more P N D q d = omega arith
@@ -141,8 +157,9 @@ root-at-most x c p k h = elim (le-or-ge x (twoTo 1) p tt) [ inl l ↦ l | inr g 
     four : T (le (twoTo 1) x) → T (le (twoTo 2) (mul binary32 x x))
     four g =
         le-trans-float (twoTo 2) (mul binary32 (twoTo 1) (twoTo 1)) (mul binary32 x x) (unfold le mul round in tt)
-        (le-trans-float (mul binary32 (twoTo 1) (twoTo 1)) (mul binary32 x (twoTo 1)) (mul binary32 x x) (mul-mono-l binary32 (twoTo 1) x (twoTo 1) tt p tt (not-neg 1) g)
-        (mul-mono-r binary32 x (twoTo 1) x p tt p (le-trans-float nought (twoTo 1) x (not-neg 1) g) g))
+        (le-trans-float (mul binary32 (twoTo 1) (twoTo 1)) (mul binary32 x (twoTo 1)) (mul binary32 x x)
+        (mul-mono-l binary32 (twoTo 1) x (twoTo 1) tt p tt (not-neg 1) g)
+        (mul-mono-r binary32 x (twoTo 1) x p tt p (le-trans-float zero (twoTo 1) x (not-neg 1) g) g))
 
 pub root-sized : (x c : Float) → (T (le (twoTo 2) c) → ⊥) → T (le (mul binary32 x x) c) → Sized 1 x
 root-sized nan c k h = absurd (unfold le lt eq mul in h)
@@ -152,7 +169,9 @@ root-sized (fin s m e) c k h =
     let x = fin s m e in
     record {
       within = record {
-        at-least = subst (λ (z : Float). T (le (neg (twoTo 1)) z)) (neg-neg x) (le-neg (neg x) (twoTo 1) (root-at-most (neg x) c (neg-finite x tt) k (subst (λ (z : Float). T (le z c)) (sym (turned x x)) h)));
+        at-least =
+            subst (λ (z : Float). T (le (neg (twoTo 1)) z)) (neg-neg x)
+            (le-neg (neg x) (twoTo 1) (root-at-most (neg x) c (neg-finite x tt) k (subst (λ (z : Float). T (le z c)) (sym (neg-mul-neg x x)) h)));
         at-most = root-at-most x c tt k h;
       };
     }
@@ -174,10 +193,10 @@ round-number : (s : Bool) (a c : ℕ) → T (not (isNan (round binary32 s a c)))
 round-number false a c = over-number (round binary32 false a c) (round-over binary32 a c)
 round-number true a c = rw (round-minus binary32 a c) (neg-number (round binary32 false a c) (over-number (round binary32 false a c) (round-over binary32 a c)))
 
-pub div-number : (x y : Float) → T (finite x) → T (lt nought y) → T (not (isNan (div binary32 x y)))
+pub div-number : (x y : Float) → T (finite x) → T (lt zero y) → T (not (isNan (div binary32 x y)))
 div-number nan y p q = absurd p
 div-number (inf s) y p q = absurd p
 div-number (fin s m e) nan p q = absurd (unfold lt in q)
 div-number (fin s m e) (inf t) p q = unfold div isNan in tt
-div-number (fin s m e) (fin t zero d) p q = absurd (nonzero-above nought (fin t zero d) tt q)
+div-number (fin s m e) (fin t Nat.zero d) p q = absurd (nonzero-above zero (fin t Nat.zero d) tt q)
 div-number (fin s m e) (fin t (suc n) d) p q = unfold div in rw (eqb·suc-zero n) (round-number (unlike s t) (m * up e * down d) (suc n * up d * down e))

@@ -43,4 +43,9 @@ everyBelow→ t zero h j l = absurd (none j l)
   where
     none : (j : ℕ) → j < 0 → ⊥
     none j l = omega arith
-everyBelow→ t (suc n) h j l = elim (eq-or-lt-of-le (le-of-suc-le-suc l)) [ inl e ↦ subst (λ (k : ℕ). T (t k)) (sym e) (and-l (t n) (everyBelow t n) h) | inr k ↦ everyBelow→ t n (and-r (t n) (everyBelow t n) h) j k ]
+everyBelow→ t (suc n) h j l =
+    elim (eq-or-lt-of-le (le-of-suc-le-suc l)) [
+      | inl e ↦ subst (λ (k : ℕ). T (t k)) (sym e) (and-l (t n) (everyBelow t n) h)
+      | inr k ↦ everyBelow→ t n
+          (and-r (t n) (everyBelow t n) h) j k
+    ]

@@ -1,5 +1,6 @@
 -- Each operation and each test gives the same number whatever the sign of a zero in it, a divisor apart, and meets `neg` as a number does. Assumes nothing.
-use Prim.Native.Nat.{_*_, _+_, _-_, _<_, _^_, _≤_, compare, compare·zero-suc, suc, suc-le-suc, zero, zero-le, ℕ}
+use Prim.Native.Nat as Nat
+use Prim.Native.Nat.{_*_, _+_, _-_, _<_, _^_, _≤_, compare, compare·zero-suc, suc, suc-le-suc, zero-le, ℕ}
 use lib.Dec.{T, eqb, eqb·suc-suc, eqb·suc-zero, eqb·zero-suc, eqb→eq, leb·suc-zero, ltb, lt→ltb, nltb→le}
 use lib.Ieee.{Float, Format, add, below, div, down, emax, eq, fin, inf, le, level, low, lt, mul, nan, nearest, neg, round, sum, units, unlike, up}
 use lib.Ieee.Fits.{and-l, round-is, up-pos}
@@ -10,11 +11,11 @@ use mathlib.Core.Path.{_∙_, _≡_, ap, ap₂, refl, subst, sym}
 use native.Mathlib.Nat.{add-comm, add-zero, lt-irrefl, mul-pos, zero-add, zero-div, zero-mod, zero-mul}
 use native.Mathlib.Omega.{arith}
 use Rattle.float.proofs.Sign.{add-comm-exact, mul-comm-exact, neg-cond, over, round-neg, unlike-not}
-use Rattle.float.specs.Notation.{nought}
+use Rattle.float.specs.Notation.{zero}
 use Rattle.float.specs.Same.{num}
 
 nearest-zero : (u : ℕ) → nearest 0 (compare 0 u) ≡ 0
-nearest-zero zero = refl
+nearest-zero Nat.zero = refl
 nearest-zero (suc u) = rw compare·zero-suc
 
 test-true : (b : Bool) → T b → b ≡ true
@@ -41,14 +42,14 @@ pub num-num : (x : Float) → num (num x) ≡ num x
 unfolding num
 num-num nan = refl
 num-num (inf s) = refl
-num-num (fin s zero e) = refl
+num-num (fin s Nat.zero e) = refl
 num-num (fin s (suc m) e) = refl
 
 neg-num : (x : Float) → num (neg (num x)) ≡ num (neg x)
 unfolding num neg
 neg-num nan = refl
 neg-num (inf s) = refl
-neg-num (fin s zero e) = refl
+neg-num (fin s Nat.zero e) = refl
 neg-num (fin s (suc m) e) = refl
 
 pub neg-cong : (x y : Float) → num x ≡ num y → num (neg x) ≡ num (neg y)
@@ -66,7 +67,8 @@ unfolding sum
 sum-plain f s a t b c = eq-or (Bool·beq s t) (ltb a b) (ltb b a) (nltb→le a b) (nltb→le b a)
   where
     eq-or : (x y z : Bool) → (T (not y) → b ≤ a) → (T (not z) → a ≤ b)
-        → num (cond x (round f s (a + b) c) (cond y (round f t (b - a) c) (round f (s && z) (a - b) c))) ≡ num (cond x (round f s (a + b) c) (cond y (round f t (b - a) c) (round f s (a - b) c)))
+        → num (cond x (round f s (a + b) c) (cond y (round f t (b - a) c) (round f (s && z) (a - b) c))) ≡ num
+        (cond x (round f s (a + b) c) (cond y (round f t (b - a) c) (round f s (a - b) c)))
     eq-or true y z h k = refl
     eq-or false true z h k = refl
     eq-or false false true h k = ap (λ (w : Bool). num (round f w (a - b) c)) (and-true s)
@@ -89,7 +91,9 @@ plain-neg f s a t b c = go s t (ltb a b)
     go false false y = round-neg f false (a + b) c
 
 sum-neg : (f : Format) (s : Bool) (a : ℕ) (t : Bool) (b c : ℕ) → num (sum f (not s) a (not t) b c) ≡ num (neg (sum f s a t b c))
-sum-neg f s a t b c = sum-plain f (not s) a (not t) b c ∙ ap num (sym (plain-neg f s a t b c)) ∙ neg-cong (plain f s a t b c) (sum f s a t b c) (sym (sum-plain f s a t b c))
+sum-neg f s a t b c =
+    sum-plain f (not s) a (not t) b c ∙ ap num (sym (plain-neg f s a t b c))
+    ∙ neg-cong (plain f s a t b c) (sum f s a t b c) (sym (sum-plain f s a t b c))
 
 -- a term of no size
 sum-none : (f : Format) (s : Bool) (a : ℕ) (t : Bool) (b c : ℕ) → a ≡ 0 → num (sum f s a t b c) ≡ num (round f t b c)
@@ -107,7 +111,8 @@ sum-none f s a t b c e = sum-plain f s a t b c ∙ go s t (ltb a b) (nltb→le a
     flat : b ≤ a → b ≡ 0
     flat h = omega arith
 
-    go : (s t y : Bool) → (T (not y) → b ≤ a) → num (cond (Bool·beq s t) (round f s (a + b) c) (cond y (round f t (b - a) c) (round f s (a - b) c))) ≡ num (round f t b c)
+    go : (s t y : Bool) → (T (not y) → b ≤ a) → num (cond (Bool·beq s t) (round f s (a + b) c) (cond y (round f t (b - a) c) (round f s (a - b) c)))
+        ≡ num (round f t b c)
     go true true y h = rw same
     go true false true h = rw less
     go true false false h = rw (both (h tt)) (round-sign f true false b c (flat (h tt)))
@@ -122,17 +127,19 @@ add-left : (f : Format) (x y : Float) → num (add f (num x) y) ≡ num (add f x
 unfolding add num
 add-left f nan y = refl
 add-left f (inf s) y = refl
-add-left f (fin s zero e) nan = refl
-add-left f (fin s zero e) (inf t) = refl
-add-left f (fin s zero e) (fin t n d) =
-    sum-none f false (0 * up e * down d) t (n * up d * down e) (down e * down d) (zeros (up e) (down d)) ∙ sym (sum-none f s (0 * up e * down d) t (n * up d * down e) (down e * down d) (zeros (up e) (down d)))
+add-left f (fin s Nat.zero e) nan = refl
+add-left f (fin s Nat.zero e) (inf t) = refl
+add-left f (fin s Nat.zero e) (fin t n d) =
+    sum-none f false (0 * up e * down d) t (n * up d * down e) (down e * down d) (zeros (up e) (down d))
+    ∙ sym (sum-none f s (0 * up e * down d) t (n * up d * down e) (down e * down d) (zeros (up e) (down d)))
 add-left f (fin s (suc m) e) y = refl
 
 add-right : (f : Format) (x y : Float) → num (add f x (num y)) ≡ num (add f x y)
 add-right f x y = ap num (add-comm-exact f x (num y)) ∙ add-left f y x ∙ ap num (add-comm-exact f y x)
 
 pub add-cong : (f : Format) (x x' y y' : Float) → num x ≡ num x' → num y ≡ num y' → num (add f x y) ≡ num (add f x' y')
-add-cong f x x' y y' h k = sym (add-left f x y) ∙ sym (add-right f (num x) y) ∙ ap₂ (λ (a b : Float). num (add f a b)) h k ∙ add-right f (num x') y' ∙ add-left f x' y'
+add-cong f x x' y y' h k =
+    sym (add-left f x y) ∙ sym (add-right f (num x) y) ∙ ap₂ (λ (a b : Float). num (add f a b)) h k ∙ add-right f (num x') y' ∙ add-left f x' y'
 
 pub add-neg : (f : Format) (x y : Float) → num (add f (neg x) (neg y)) ≡ num (neg (add f x y))
 unfolding add neg
@@ -151,46 +158,48 @@ mul-left : (f : Format) (x y : Float) → num (mul f (num x) y) ≡ num (mul f x
 unfolding mul num
 mul-left f nan y = refl
 mul-left f (inf s) y = refl
-mul-left f (fin s zero e) nan = refl
-mul-left f (fin s zero e) (inf t) = refl
-mul-left f (fin s zero e) (fin t n d) = round-sign f (unlike false t) (unlike s t) (0 * up e * (n * up d)) (down e * down d) (zeros (up e) (n * up d))
+mul-left f (fin s Nat.zero e) nan = refl
+mul-left f (fin s Nat.zero e) (inf t) = refl
+mul-left f (fin s Nat.zero e) (fin t n d) = round-sign f (unlike false t) (unlike s t) (0 * up e * (n * up d)) (down e * down d) (zeros (up e) (n * up d))
 mul-left f (fin s (suc m) e) y = refl
 
 mul-right : (f : Format) (x y : Float) → num (mul f x (num y)) ≡ num (mul f x y)
 mul-right f x y = ap num (mul-comm-exact f x (num y)) ∙ mul-left f y x ∙ ap num (mul-comm-exact f y x)
 
 pub mul-cong : (f : Format) (x x' y y' : Float) → num x ≡ num x' → num y ≡ num y' → num (mul f x y) ≡ num (mul f x' y')
-mul-cong f x x' y y' h k = sym (mul-left f x y) ∙ sym (mul-right f (num x) y) ∙ ap₂ (λ (a b : Float). num (mul f a b)) h k ∙ mul-right f (num x') y' ∙ mul-left f x' y'
+mul-cong f x x' y y' h k =
+    sym (mul-left f x y) ∙ sym (mul-right f (num x) y) ∙ ap₂ (λ (a b : Float). num (mul f a b)) h k ∙ mul-right f (num x') y' ∙ mul-left f x' y'
 
 -- ---- the quotient. Its sign shows the sign of a zero below: there the divisor is to be the same as data, or no zero
 abbrev pub nonzero : Float → Bool
 nonzero nan = true
 nonzero (inf s) = true
-nonzero (fin s zero e) = false
+nonzero (fin s Nat.zero e) = false
 nonzero (fin s (suc m) e) = true
 
 pub num-nonzero : (x : Float) → T (nonzero x) → num x ≡ x
 unfolding num
 num-nonzero nan h = refl
 num-nonzero (inf s) h = refl
-num-nonzero (fin s zero e) h = absurd h
+num-nonzero (fin s Nat.zero e) h = absurd h
 num-nonzero (fin s (suc m) e) h = refl
 
 pub nonzero-num : (x : Float) → nonzero (num x) ≡ nonzero x
 unfolding num
 nonzero-num nan = refl
 nonzero-num (inf s) = refl
-nonzero-num (fin s zero e) = refl
+nonzero-num (fin s Nat.zero e) = refl
 nonzero-num (fin s (suc m) e) = refl
 
 div-left : (f : Format) (x y : Float) → num (div f (num x) y) ≡ num (div f x y)
 unfolding div num
 div-left f nan y = refl
 div-left f (inf s) y = refl
-div-left f (fin s zero e) nan = refl
-div-left f (fin s zero e) (inf t) = refl
-div-left f (fin s zero e) (fin t zero d) = refl
-div-left f (fin s zero e) (fin t (suc n) d) = rw (eqb·suc-zero n) (round-sign f (unlike false t) (unlike s t) (0 * up e * down d) (suc n * up d * down e) (zeros (up e) (down d)))
+div-left f (fin s Nat.zero e) nan = refl
+div-left f (fin s Nat.zero e) (inf t) = refl
+div-left f (fin s Nat.zero e) (fin t Nat.zero d) = refl
+div-left f (fin s Nat.zero e) (fin t (suc n) d) =
+    rw (eqb·suc-zero n) (round-sign f (unlike false t) (unlike s t) (0 * up e * down d) (suc n * up d * down e) (zeros (up e) (down d)))
 div-left f (fin s (suc m) e) y = refl
 
 pub div-cong : (f : Format) (x x' y : Float) → num x ≡ num x' → num (div f x y) ≡ num (div f x' y)
@@ -210,7 +219,8 @@ div-neg-left f (fin s m e) nan = refl
 div-neg-left f (fin s m e) (inf t) = refl
 div-neg-left f (fin s m e) (fin t n d) =
     ap num (ap (λ (w : Bool). cond (eqb n 0) (cond (eqb m 0) nan (inf w)) (round f w (m * up e * down d) (n * up d * down e))) (unlike-not s t)
-    ∙ sym (neg-cond₂ (eqb n 0) (eqb m 0) (unlike s t) (round f (unlike s t) (m * up e * down d) (n * up d * down e)) (round f (not (unlike s t)) (m * up e * down d) (n * up d * down e)) (round-neg f (unlike s t) (m * up e * down d) (n * up d * down e))))
+    ∙ sym (neg-cond₂ (eqb n 0) (eqb m 0) (unlike s t) (round f (unlike s t) (m * up e * down d) (n * up d * down e))
+    (round f (not (unlike s t)) (m * up e * down d) (n * up d * down e)) (round-neg f (unlike s t) (m * up e * down d) (n * up d * down e))))
 
 -- ---- comparison
 below-none-left : (s t : Bool) (a b : ℕ) → a ≡ 0 → below false a t b ≡ below s a t b
@@ -234,9 +244,9 @@ lt-left : (x y : Float) → lt (num x) y ≡ lt x y
 unfolding lt num
 lt-left nan y = refl
 lt-left (inf s) y = refl
-lt-left (fin s zero e) nan = refl
-lt-left (fin s zero e) (inf t) = refl
-lt-left (fin s zero e) (fin t n d) = below-none-left s t (0 * up e * down d) (n * up d * down e) (zeros (up e) (down d))
+lt-left (fin s Nat.zero e) nan = refl
+lt-left (fin s Nat.zero e) (inf t) = refl
+lt-left (fin s Nat.zero e) (fin t n d) = below-none-left s t (0 * up e * down d) (n * up d * down e) (zeros (up e) (down d))
 lt-left (fin s (suc m) e) y = refl
 
 lt-right : (x y : Float) → lt x (num y) ≡ lt x y
@@ -244,11 +254,11 @@ unfolding lt num
 lt-right nan y = refl
 lt-right (inf s) nan = refl
 lt-right (inf s) (inf t) = refl
-lt-right (inf s) (fin t zero d) = refl
+lt-right (inf s) (fin t Nat.zero d) = refl
 lt-right (inf s) (fin t (suc n) d) = refl
 lt-right (fin s m e) nan = refl
 lt-right (fin s m e) (inf t) = refl
-lt-right (fin s m e) (fin t zero d) = below-none-right s t (m * up e * down d) (0 * up d * down e) (zeros (up d) (down e))
+lt-right (fin s m e) (fin t Nat.zero d) = below-none-right s t (m * up e * down d) (0 * up d * down e) (zeros (up d) (down e))
 lt-right (fin s m e) (fin t (suc n) d) = refl
 
 pub lt-cong : (x x' y y' : Float) → num x ≡ num x' → num y ≡ num y' → lt x y ≡ lt x' y'
@@ -294,9 +304,9 @@ eq-left : (x y : Float) → eq (num x) y ≡ eq x y
 unfolding eq num
 eq-left nan y = refl
 eq-left (inf s) y = refl
-eq-left (fin s zero e) nan = refl
-eq-left (fin s zero e) (inf t) = refl
-eq-left (fin s zero e) (fin t n d) = level-none-left s t (0 * up e * down d) (n * up d * down e) (zeros (up e) (down d))
+eq-left (fin s Nat.zero e) nan = refl
+eq-left (fin s Nat.zero e) (inf t) = refl
+eq-left (fin s Nat.zero e) (fin t n d) = level-none-left s t (0 * up e * down d) (n * up d * down e) (zeros (up e) (down d))
 eq-left (fin s (suc m) e) y = refl
 
 eq-right : (x y : Float) → eq x (num y) ≡ eq x y
@@ -304,11 +314,11 @@ unfolding eq num
 eq-right nan y = refl
 eq-right (inf s) nan = refl
 eq-right (inf s) (inf t) = refl
-eq-right (inf s) (fin t zero d) = refl
+eq-right (inf s) (fin t Nat.zero d) = refl
 eq-right (inf s) (fin t (suc n) d) = refl
 eq-right (fin s m e) nan = refl
 eq-right (fin s m e) (inf t) = refl
-eq-right (fin s m e) (fin t zero d) = level-none-right s t (m * up e * down d) (0 * up d * down e) (zeros (up d) (down e))
+eq-right (fin s m e) (fin t Nat.zero d) = level-none-right s t (m * up e * down d) (0 * up d * down e) (zeros (up d) (down e))
 eq-right (fin s m e) (fin t (suc n) d) = refl
 
 pub eq-cong : (x x' y y' : Float) → num x ≡ num x' → num y ≡ num y' → eq x y ≡ eq x' y'
@@ -328,13 +338,15 @@ eq-neg (fin s m e) (inf t) = refl
 eq-neg (fin s m e) (fin t n d) = level-neg s t (m * up e * down d) (n * up d * down e)
 
 eqb-comm : (a b : ℕ) → eqb a b ≡ eqb b a
-eqb-comm zero zero = refl
-eqb-comm zero (suc n) = eqb·zero-suc n ∙ sym (eqb·suc-zero n)
-eqb-comm (suc m) zero = eqb·suc-zero m ∙ sym (eqb·zero-suc m)
+eqb-comm Nat.zero Nat.zero = refl
+eqb-comm Nat.zero (suc n) = eqb·zero-suc n ∙ sym (eqb·suc-zero n)
+eqb-comm (suc m) Nat.zero = eqb·suc-zero m ∙ sym (eqb·zero-suc m)
 eqb-comm (suc m) (suc n) = eqb·suc-suc m n ∙ eqb-comm m n ∙ sym (eqb·suc-suc n m)
 
 level-comm : (s t : Bool) (a b : ℕ) → level s a t b ≡ level t b s a
-level-comm s t a b = ap (λ (z : Bool). eqb a b && (z || eqb a 0)) (beq-comm s t) ∙ go (eqb a b) (eqb→eq a b) ∙ ap (λ (z : Bool). z && (Bool·beq t s || eqb b 0)) (eqb-comm a b)
+level-comm s t a b =
+    ap (λ (z : Bool). eqb a b && (z || eqb a 0)) (beq-comm s t) ∙ go (eqb a b) (eqb→eq a b)
+    ∙ ap (λ (z : Bool). z && (Bool·beq t s || eqb b 0)) (eqb-comm a b)
   where
     beq-comm : (s t : Bool) → Bool·beq s t ≡ Bool·beq t s
     beq-comm true true = refl
@@ -362,33 +374,36 @@ eq-comm (fin s m e) (inf t) = refl
 eq-comm (fin s m e) (fin t n d) = level-comm s t (m * up e * down d) (n * up d * down e)
 
 -- ---- comparison with zero
-pub plus-not-below : (m : ℕ) (e : ℤ) → lt (fin false m e) nought ≡ false
+pub plus-not-below : (m : ℕ) (e : ℤ) → lt (fin false m e) zero ≡ false
 unfolding lt
 plus-not-below m e = rw (zero-mul (down e)) (leb·suc-zero (m * up e * 1))
 
-pub zero-not-below : (s : Bool) (e : ℤ) → lt (fin s zero e) nought ≡ false
-zero-not-below s e = sym (lt-left (fin s zero e) nought) ∙ (unfold num in plus-not-below zero e)
+pub zero-not-below : (s : Bool) (e : ℤ) → lt (fin s Nat.zero e) zero ≡ false
+zero-not-below s e = sym (lt-left (fin s Nat.zero e) zero) ∙ (unfold num in plus-not-below Nat.zero e)
 
 some-size : (m : ℕ) (e : ℤ) → 0 < suc m * up e * 1
 some-size m e = mul-pos (mul-pos (suc-le-suc zero-le) (up-pos e)) (suc-le-suc zero-le)
 
-pub minus-below : (m : ℕ) (e : ℤ) → lt (fin true (suc m) e) nought ≡ true
+pub minus-below : (m : ℕ) (e : ℤ) → lt (fin true (suc m) e) zero ≡ true
 unfolding lt
 minus-below m e = rw (zero-mul (down e), add-zero) (test-true (ltb 0 (suc m * up e * 1)) (lt→ltb 0 (suc m * up e * 1) (some-size m e)))
 
-pub zero-is-zero : (s : Bool) (e : ℤ) → eq (fin s zero e) nought ≡ true
-zero-is-zero s e = sym (eq-left (fin s zero e) nought) ∙ (unfold num eq in simp zero-mul)
+pub zero-is-zero : (s : Bool) (e : ℤ) → eq (fin s Nat.zero e) zero ≡ true
+zero-is-zero s e = sym (eq-left (fin s Nat.zero e) zero) ∙ (unfold num eq in simp zero-mul)
 
 test-false : (b : Bool) → (T b → ⊥) → b ≡ false
 test-false true h = absurd (h tt)
 test-false false h = refl
 
-pub some-not-zero : (s : Bool) (m : ℕ) (e : ℤ) → eq (fin s (suc m) e) nought ≡ false
+pub some-not-zero : (s : Bool) (m : ℕ) (e : ℤ) → eq (fin s (suc m) e) zero ≡ false
 unfolding eq
-some-not-zero s m e = test-false (level s (suc m * up e * 1) false (0 * down e)) (λ t. lt-irrefl 0 (subst (λ (n : ℕ). 0 < n) (eqb→eq (suc m * up e * 1) (0 * down e) (and-l (eqb (suc m * up e * 1) (0 * down e)) _ t) ∙ zero-mul (down e)) (some-size m e)))
+some-not-zero s m e =
+    test-false (level s (suc m * up e * 1) false (0 * down e))
+    (λ t. lt-irrefl 0 (subst (λ (n : ℕ). 0 < n)
+    (eqb→eq (suc m * up e * 1) (0 * down e) (and-l (eqb (suc m * up e * 1) (0 * down e)) _ t) ∙ zero-mul (down e)) (some-size m e)))
 
 -- not on both sides of zero
-pub below-not-above : (x : Float) → T (lt x nought) → T (not (lt nought x))
+pub below-not-above : (x : Float) → T (lt x zero) → T (not (lt zero x))
 unfolding lt
 below-not-above nan h = tt
 below-not-above (inf true) h = tt
@@ -396,12 +411,12 @@ below-not-above (inf false) h = absurd h
 below-not-above (fin true m e) h = tt
 below-not-above (fin false m e) h = absurd (subst T (plus-not-below m e) (unfold lt in h))
 
-pub plus-above : (m : ℕ) (e : ℤ) → lt nought (fin false (suc m) e) ≡ true
+pub plus-above : (m : ℕ) (e : ℤ) → lt zero (fin false (suc m) e) ≡ true
 unfolding lt
 plus-above m e = rw (zero-mul (down e)) (test-true (ltb 0 (suc m * up e * 1)) (lt→ltb 0 (suc m * up e * 1) (some-size m e)))
 
 -- what has the sign + is not below zero
-pub over-not-below : (x : Float) → T (over x) → lt x nought ≡ false
+pub over-not-below : (x : Float) → T (over x) → lt x zero ≡ false
 over-not-below nan h = absurd h
 over-not-below (inf true) h = absurd h
 over-not-below (inf false) h = unfold lt in refl
@@ -412,8 +427,8 @@ pub le-num : (x x' y y' : Float) → num x ≡ num x' → num y ≡ num y' → l
 unfolding le
 le-num x x' y y' h k = ap₂ _||_ (lt-cong x x' y y' h k) (eq-cong x x' y y' h k)
 
-pub nonzero-below : (x : Float) → T (lt x nought) → T (nonzero x)
+pub nonzero-below : (x : Float) → T (lt x zero) → T (nonzero x)
 nonzero-below nan h = tt
 nonzero-below (inf s) h = tt
-nonzero-below (fin s zero e) h = subst T (zero-not-below s e) h
+nonzero-below (fin s Nat.zero e) h = subst T (zero-not-below s e) h
 nonzero-below (fin s (suc m) e) h = tt

@@ -1,6 +1,7 @@
 -- The notation of all definitions: 32-bit IEEE 754 operations, each rounded once, and constants rounded once (01, "Blocks" and
 -- "Numbers the Rust takes from elsewhere"). Definitions only.
-use Prim.Native.Nat.{suc, zero, ℕ}
+use Prim.Native.Nat as Nat
+use Prim.Native.Nat.{suc, ℕ}
 use lib.Ieee.{Float, add, binary32, div, fin, inf, lt, mul, nan, ofBits, round, sub}
 use lib.IntN.{negsuc, pos}
 use mathlib.Core.Bool.{cond, false, true}
@@ -30,8 +31,8 @@ abbrev pub hex : ℕ → Float
 hex b = ofBits binary32 b
 
 -- constants that are exact
-abbrev pub nought : Float
-nought = fin false 0 (pos 0)
+abbrev pub zero : Float
+zero = fin false 0 (pos 0)
 
 abbrev pub one : Float
 one = fin false 1 (pos 0)
@@ -46,15 +47,15 @@ abbrev pub two : Float
 two = fin false 1 (pos 1)
 
 -- the size of a number, |x|: without its sign
-unfoldable pub sizeOf : Float → Float
-sizeOf nan = nan
-sizeOf (inf s) = inf false
-sizeOf (fin s zero e) = nought
-sizeOf (fin s (suc m) e) = fin false (suc m) e
+unfoldable pub abs : Float → Float
+abs nan = nan
+abs (inf s) = inf false
+abs (fin s Nat.zero e) = zero
+abs (fin s (suc m) e) = fin false (suc m) e
 
 -- max(a, 0): +0 unless a > 0
 unfoldable pub atLeastZero : Float → Float
-atLeastZero a = cond (lt nought a) a nought
+atLeastZero a = cond (lt zero a) a zero
 
 -- x brought into lo..hi, as Rust's `clamp`: a NaN stays
 unfoldable pub clamp : Float → Float → Float → Float

@@ -86,8 +86,8 @@ pub fn whole_part(x: f32) -> f32
 }
 
 // The size of x, |x|.
-pub fn size(x: f32) -> f32
-    ensures { λ r. ⌜ r ≡ Notation.sizeOf x ⌝ }
+pub fn abs(x: f32) -> f32
+    ensures { λ r. ⌜ r ≡ Notation.abs x ⌝ }
 {
     if x < 0.0 {
         return -x;

@@ -1,4 +1,5 @@
--- The lent list and the array form agree: the first rows of an array, lent as a list and walked once, fill the motors and the servos that the array form fills. An array of the array form has 16 rows, and `liveOf` is at most that. Assumes nothing.
+-- The lent list and the array form agree: the first rows of an array, lent as a list and walked once, fill the motors and the
+-- servos that the array form fills. An array of the array form has 16 rows, and `liveOf` is at most that. Assumes nothing.
 use Prim.Native.Nat.{ℕ, suc, zero, _≤_}
 use lib.Dec.{ltb, ltb→lt, T as Holds}
 use lib.Ieee.{Float}
@@ -11,14 +12,15 @@ use native.Mathlib.Omega.{arith}
 use Rattle.mixers.specs.Rows.{liveOf, noRow, putTo}
 use Rattle.mixers.specs.declared.MixRow.{MixRow}
 use Rattle.mixers.specs.declared.Rows.{Rows}
-use Rattle.motors.specs.Motor.{groupOf, liftGroupOf, putLiftRow, putMotorRow, undriven}
+use Rattle.motors.specs.Motor.{groupOf, liftGroupOf, putLiftRow, putMotorRow, emptyGroup}
 use Rattle.motors.specs.declared.MotorLayout.{MotorLayout}
 use Rattle.surfaces.specs.Surface.{factorsOf, noFactors, putServoRow, surfacesOf}
 use Rattle.lent_rows.specs.Mixing.{mixFrom, mixOf, putRow, startOf, surfacesIn}
 use Rattle.lent_rows.specs.declared.Mix.{Mix}
 
 -- the first row of a list may be put before the others
-put-first : {X : Type 0} (put : X → MixRow → X) (x : X) (row : MixRow) (rows : List MixRow) (n : ℕ) → putTo put x (row ∷ rows) (suc n) ≡ putTo put (put x row) rows n
+put-first : {X : Type 0} (put : X → MixRow → X) (x : X) (row : MixRow) (rows : List MixRow) (n : ℕ)
+    → putTo put x (row ∷ rows) (suc n) ≡ putTo put (put x row) rows n
 unfolding putTo
 put-first put x row rows zero = refl
 put-first put x row rows (suc n) = ap (λ z. put z (getD rows n noRow)) (put-first put x row rows n)
@@ -33,7 +35,12 @@ list-as-array m (row ∷ rows) (suc n) l = list-as-array (putRow m row) rows n (
 -- a mix is filled part by part: each part sees the rows alone
 module _ (l : MotorLayout) (tau : Float) (l' : MotorLayout) (tau' : Float) where
   abbrev parts : List MixRow → ℕ → Mix
-  parts rows n = record { motors = putTo putMotorRow (undriven l tau) rows n; lift = putTo putLiftRow (undriven l' tau') rows n; factors = putTo putServoRow noFactors rows n }
+  parts rows n =
+      record {
+        motors = putTo putMotorRow (emptyGroup l tau) rows n;
+        lift = putTo putLiftRow (emptyGroup l' tau') rows n;
+        factors = putTo putServoRow noFactors rows n;
+      }
 
   by-parts : (rows : List MixRow) (n : ℕ) → putTo putRow (startOf l tau l' tau') rows n ≡ parts rows n
   unfolding putTo startOf putRow
@@ -52,7 +59,9 @@ live-most rows = live-at rows (ltb (rows .count) 16) refl
 module _ (rows : Rows) (l : MotorLayout) (tau : Float) (l' : MotorLayout) (tau' : Float) (long : length (rows .rows) ≡ 16) where
   pub lent-parts : mixOf rows l tau l' tau' ≡ parts l tau l' tau' (rows .rows) (liveOf rows)
   unfolding mixOf
-  lent-parts = list-as-array (startOf l tau l' tau') (rows .rows) (liveOf rows) (omega (arith, live-most rows, long)) ∙ by-parts l tau l' tau' (rows .rows) (liveOf rows)
+  lent-parts =
+      list-as-array (startOf l tau l' tau') (rows .rows) (liveOf rows) (omega (arith, live-most rows, long))
+      ∙ by-parts l tau l' tau' (rows .rows) (liveOf rows)
 
   -- the motors
   pub lent-motors : mixOf rows l tau l' tau' .motors ≡ groupOf rows l tau

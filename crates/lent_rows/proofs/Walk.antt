@@ -1,4 +1,5 @@
--- A walk over a list of rows: what is left of it at an index is one row put and what is left after, and at the end nothing. Rests on the list's length alone. Assumes nothing.
+-- A walk over a list of rows: what is left of it at an index is one row put and what is left after, and at the end nothing. Rests
+-- on the list's length alone. Assumes nothing.
 use Prim.Native.Nat.{ℕ, suc, zero, _<_, _≤_}
 use lib.ListN.{drop, drop-of-length-le, getD, length}
 use mathlib.Core.List.{List, [], _∷_}

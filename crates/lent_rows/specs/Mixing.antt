@@ -3,11 +3,11 @@
 use lib.Ieee.{Float}
 use lib.ListN.{replicate, take}
 use mathlib.Core.List.{List, [], _∷_}
-use Rattle.float.specs.Notation.{nought}
+use Rattle.float.specs.Notation.{zero}
 use Rattle.mixers.specs.Rows.{liveOf}
 use Rattle.mixers.specs.declared.MixRow.{MixRow}
 use Rattle.mixers.specs.declared.Rows.{Rows}
-use Rattle.motors.specs.Motor.{putLiftRow, putMotorRow, undriven}
+use Rattle.motors.specs.Motor.{putLiftRow, putMotorRow, emptyGroup}
 use Rattle.motors.specs.declared.MotorLayout.{MotorLayout}
 use Rattle.surfaces.specs.Surface.{noFactors, putServoRow, weighed}
 use Rattle.surfaces.specs.declared.Surfaces.{Surfaces}
@@ -15,7 +15,7 @@ use Rattle.lent_rows.specs.declared.Mix.{Mix}
 
 -- before the first row no motor, no lift rotor and no servo is driven
 unfoldable pub startOf : MotorLayout → Float → MotorLayout → Float → Mix
-startOf l tau l' tau' = record { motors = undriven l tau; lift = undriven l' tau'; factors = noFactors }
+startOf l tau l' tau' = record { motors = emptyGroup l tau; lift = emptyGroup l' tau'; factors = noFactors }
 
 -- one row: a motor's goes to the motors, a lift rotor's to the lift rotors, a servo's to the factors (01, modules 2 and 3; 02, 5)
 unfoldable pub putRow : Mix → MixRow → Mix
@@ -32,4 +32,4 @@ mixOf rows l tau l' tau' = mixFrom (startOf l tau l' tau') (take (liveOf rows) (
 
 -- the servos that are filled, each factor over its axis's sum of squares (01, module 3)
 unfoldable pub surfacesIn : Mix → Surfaces
-surfacesIn m = record { weights = weighed (m .factors .at); running = replicate 8 nought }
+surfacesIn m = record { weights = weighed (m .factors .at); running = replicate 8 zero }

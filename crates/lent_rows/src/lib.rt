@@ -33,8 +33,8 @@ impl Mix {
     ) -> Self
         ensures { λ r. ⌜ r ≡ startOf layout «time_constant_s» «lift_layout» «lift_time_constant_s» ⌝ }
     {
-        let motors = MotorGroup::undriven(layout, time_constant_s);
-        let lift = MotorGroup::undriven(lift_layout, lift_time_constant_s);
+        let motors = MotorGroup::empty(layout, time_constant_s);
+        let lift = MotorGroup::empty(lift_layout, lift_time_constant_s);
         let factors = Factors {
             at: [Vec3::zeros(); 8],
         };
@@ -72,7 +72,7 @@ impl Mix {
 }
 
 // The rows of a lent list, put one after the other.
-pub fn mixed_from(rows: &[MixRow], start: Mix) -> Mix
+pub fn fill_from_slice(rows: &[MixRow], start: Mix) -> Mix
     ensures { λ r. ⌜ r ≡ mixFrom start (now (rows .entry)) ⌝ }
 {
     let mut m = start;
@@ -85,16 +85,16 @@ pub fn mixed_from(rows: &[MixRow], start: Mix) -> Mix
 }
 
 // The same by value: the first `count` rows of an array are lent.
-fn mixed_lent(list: [MixRow; MOST_ROWS], count: usize, start: Mix) -> Mix
+fn fill_from_array(list: [MixRow; MOST_ROWS], count: usize, start: Mix) -> Mix
     requires { ⌜ count ≤ mostRows ⌝ }
     ensures { λ r. ⌜ r ≡ mixFrom start (take count list) ⌝ }
 {
     let all = list;
-    mixed_from(&all[..count], start)
+    fill_from_slice(&all[..count], start)
 }
 
 // The rows of the array form, lent and walked once: they fill what the array form fills.
-pub fn mixed(
+pub fn fill_from_rows(
     rows: Rows,
     layout: MotorLayout,
     time_constant_s: f32,
@@ -109,5 +109,5 @@ pub fn mixed(
     let list = rows.rows;
     let count = rows.live();
     let start = Mix::start(layout, time_constant_s, lift_layout, lift_time_constant_s);
-    mixed_lent(list, count, start)
+    fill_from_array(list, count, start)
 }

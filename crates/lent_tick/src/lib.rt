@@ -5,7 +5,7 @@ use airframe::Airframe;
 use flight::Flight;
 use flight::Tick;
 use wing::Report;
-use wing::Ticked;
+use wing::TickResult;
 
 // One tick of the record behind `flight`: the report is the by-value tick's, and what lies behind the reference afterwards is the
 // state it hands back; after a refusal that is what was there.
@@ -20,10 +20,10 @@ pub fn tick_in_place(a: Airframe, flight: &mut Flight, t: Tick) -> Report
 }
 
 // The same by value, through a record that is lent: what a covered program calls to run `tick_in_place`.
-pub fn tick_lent(a: Airframe, s: Flight, t: Tick) -> Ticked
+pub fn tick_by_reference(a: Airframe, s: Flight, t: Tick) -> TickResult
     ensures { λ r. ⌜ r ≡ tickOf a s t ⌝ }
 {
     let mut flight = s;
     let report = tick_in_place(a, &mut flight, t);
-    Ticked { report, flight }
+    TickResult { report, flight }
 }

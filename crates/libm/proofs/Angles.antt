@@ -1,5 +1,6 @@
 -- The angles are numbers: atan2 of a finite y and an x that is no NaN is finite, and so is asin from -1 to 1. Assumes nothing.
-use Prim.Native.Nat.{suc, zero, ℕ}
+use Prim.Native.Nat as Nat
+use Prim.Native.Nat.{suc, ℕ}
 use lib.Dec.{T, lt→ltb}
 use lib.Ieee.{Float, add, binary32, div, eq, fin, fits, inf, isNan, le, lt, mul, nan, neg, round, sub}
 use lib.Ieee.Bits.{is-false}
@@ -16,7 +17,7 @@ use Rattle.float.proofs.Sign.{over, units-over}
 use Rattle.float.proofs.Sizes.{Sized, over-number, ratio-sized, sized, sized-add, sized-finite, sized-mul, sized-neg, sized-sub, sized-wider, twoTo}
 use Rattle.float.proofs.Zeros.{minus-below, plus-above, plus-not-below, zero-is-zero}
 use Rattle.float.specs.Interval.{Within}
-use Rattle.float.specs.Notation.{_⊕_, _⊖_, _⊗_, _⊘_, nought, one, rounded, sizeOf}
+use Rattle.float.specs.Notation.{_⊕_, _⊖_, _⊗_, _⊘_, zero, one, rounded, abs}
 use Rattle.libm.specs.Atan.{angleOf, asinOf, atan2Of, atanNear, atanPoly, beyond, halfPi, knee, offOrigin, pi, quarterPi, sided}
 use Rattle.libm.specs.Sqrt.{rootUnits, sqrtOf}
 
@@ -50,8 +51,10 @@ module _ (a : Float) (s : Sized 0 a) (k : T (le knee a)) where
   quotient-sized =
       let low : T (le one (a ⊕ one)) = le-trans-float one (knee ⊕ one) (a ⊕ one) (unfold le add round in tt) (more .0) in
       let high : T (le (a ⊕ one) (twoTo 1)) = le-trans-float (a ⊕ one) (one ⊕ one) (twoTo 1) (more .1) (unfold le add round in tt) in
-      ratio-sized (a ⊖ one) (a ⊕ one) (within-finite (knee ⊖ one) (one ⊖ one) (a ⊖ one) (unfold sub round in tt) (unfold sub round in tt) less) (between one (a ⊕ one) (twoTo 1) tt tt low high)
-      (le-trans-float (neg (a ⊕ one)) (neg one) (a ⊖ one) (le-neg one (a ⊕ one) low) (le-trans-float (neg one) (knee ⊖ one) (a ⊖ one) (unfold le neg sub round in tt) (less .at-least)))
+      ratio-sized (a ⊖ one) (a ⊕ one) (within-finite (knee ⊖ one) (one ⊖ one) (a ⊖ one) (unfold sub round in tt) (unfold sub round in tt) less)
+      (between one (a ⊕ one) (twoTo 1) tt tt low high)
+      (le-trans-float (neg (a ⊕ one)) (neg one) (a ⊖ one) (le-neg one (a ⊕ one) low)
+      (le-trans-float (neg one) (knee ⊖ one) (a ⊖ one) (unfold le neg sub round in tt) (less .at-least)))
       (le-trans-float (a ⊖ one) (one ⊖ one) (a ⊕ one) (less .at-most) (le-trans-float (one ⊖ one) one (a ⊕ one) (unfold le sub round in tt) low))
 
 near-sized : {a : Float} → Sized 0 a → Sized 5 (atanNear a)
@@ -86,31 +89,35 @@ angle-by y x = go (lt x y)
 over-sized : (x : Float) (m : ℕ) (e : ℤ) → T (finite x) → T (over x) → T (le x (fin false (suc m) e)) → Sized 0 (x ⊘ fin false (suc m) e)
 over-sized x m e p o h = ratio-sized x (fin false (suc m) e) p (lt→ltb 0 (suc m) (omega arith)) (over-le (fin false (suc m) e) x tt o) h
 
-zero-sized : (m : ℕ) (e : ℤ) → Sized 0 (nought ⊘ fin false (suc m) e)
-zero-sized m e = over-sized nought m e tt tt (lt→le nought (fin false (suc m) e) (subst T (sym (plus-above m e)) tt))
+zero-sized : (m : ℕ) (e : ℤ) → Sized 0 (zero ⊘ fin false (suc m) e)
+zero-sized m e = over-sized zero m e tt tt (lt→le zero (fin false (suc m) e) (subst T (sym (plus-above m e)) tt))
 
-angle-sized : (y x : Float) → T (finite y) → T (not (isNan x)) → (eq y nought && eq x nought) ≡ false → Sized 6 (angleOf (sizeOf y) (sizeOf x))
-unfolding sizeOf
+angle-sized : (y x : Float) → T (finite y) → T (not (isNan x)) → (eq y zero && eq x zero) ≡ false → Sized 6 (angleOf (abs y) (abs x))
+unfolding abs
 angle-sized nan x p q o = absurd p
 angle-sized (inf s) x p q o = absurd p
 angle-sized (fin s m e) nan p q o = absurd (unfold isNan in q)
-angle-sized (fin s zero e) (inf t) p q o = angle-by nought (inf false) (λ h. absurd (unfold lt in h)) (λ h. unfold div in sized 0 (unfold le neg in tt) (unfold le in tt))
-angle-sized (fin s (suc m) e) (inf t) p q o = angle-by (fin false (suc m) e) (inf false) (λ h. absurd (unfold lt in h)) (λ h. unfold div in sized 0 (unfold le neg in tt) (unfold le in tt))
-angle-sized (fin s zero e) (fin t zero d) p q o = absurd (true≢false (sym (ap₂ _&&_ (zero-is-zero s e) (zero-is-zero t d)) ∙ o))
-angle-sized (fin s zero e) (fin t (suc n) d) p q o = angle-by nought (fin false (suc n) d) (λ h. absurd (subst T (plus-not-below (suc n) d) h)) (λ h. zero-sized n d)
-angle-sized (fin s (suc m) e) (fin t zero d) p q o = angle-by (fin false (suc m) e) nought (λ h. zero-sized m e) (λ h. absurd (subst (λ (b : Bool). T (not b)) (plus-above m e) h))
+angle-sized (fin s Nat.zero e) (inf t) p q o =
+    angle-by zero (inf false) (λ h. absurd (unfold lt in h)) (λ h. unfold div in sized 0 (unfold le neg in tt) (unfold le in tt))
+angle-sized (fin s (suc m) e) (inf t) p q o =
+    angle-by (fin false (suc m) e) (inf false) (λ h. absurd (unfold lt in h)) (λ h. unfold div in sized 0 (unfold le neg in tt) (unfold le in tt))
+angle-sized (fin s Nat.zero e) (fin t Nat.zero d) p q o = absurd (true≢false (sym (ap₂ _&&_ (zero-is-zero s e) (zero-is-zero t d)) ∙ o))
+angle-sized (fin s Nat.zero e) (fin t (suc n) d) p q o =
+    angle-by zero (fin false (suc n) d) (λ h. absurd (subst T (plus-not-below (suc n) d) h)) (λ h. zero-sized n d)
+angle-sized (fin s (suc m) e) (fin t Nat.zero d) p q o =
+    angle-by (fin false (suc m) e) zero (λ h. zero-sized m e) (λ h. absurd (subst (λ (b : Bool). T (not b)) (plus-above m e) h))
 angle-sized (fin s (suc m) e) (fin t (suc n) d) p q o =
     let y = fin false (suc m) e in
     let x = fin false (suc n) d in
     angle-by y x (λ h. over-sized x m e tt tt (lt→le x y h)) (λ h. over-sized y n d tt tt (not-lt→le x y (unfold isNan in tt) (unfold isNan in tt) h))
 
 -- ---- all quadrants
-off-sized : (y x : Float) → T (finite y) → T (not (isNan x)) → (eq y nought && eq x nought) ≡ false → Sized 7 (offOrigin y x)
+off-sized : (y x : Float) → T (finite y) → T (not (isNan x)) → (eq y zero && eq x zero) ≡ false → Sized 7 (offOrigin y x)
 unfolding offOrigin sided beyond
-off-sized y x p q o = go (lt y nought) (lt x nought)
+off-sized y x p q o = go (lt y zero) (lt x zero)
   where
     a : Float
-    a = angleOf (sizeOf y) (sizeOf x)
+    a = angleOf (abs y) (abs x)
 
     straight : Sized 2 pi
     straight = sized 2 (unfold le neg round in tt) (unfold le round in tt)
@@ -125,19 +132,20 @@ off-sized y x p q o = go (lt y nought) (lt x nought)
 
 pub atan2-sized : (y x : Float) → T (finite y) → T (not (isNan x)) → Sized 7 (atan2Of y x)
 unfolding atan2Of
-atan2-sized y x p q = go (eq y nought && eq x nought) refl
+atan2-sized y x p q = go (eq y zero && eq x zero) refl
   where
-    go : (b : Bool) → (eq y nought && eq x nought) ≡ b → Sized 7 (cond b nought (offOrigin y x))
+    go : (b : Bool) → (eq y zero && eq x zero) ≡ b → Sized 7 (cond b zero (offOrigin y x))
     go true e = sized 7 (unfold le neg in tt) (unfold le in tt)
     go false e = off-sized y x p q e
 
 -- ---- asin
-root-number : (x : Float) → T (finite x) → T (le nought x) → T (not (isNan (sqrtOf binary32 x)))
+root-number : (x : Float) → T (finite x) → T (le zero x) → T (not (isNan (sqrtOf binary32 x)))
 unfolding sqrtOf rootUnits
 root-number nan p h = absurd p
 root-number (inf s) p h = absurd p
-root-number (fin s zero e) p h = unfold isNan in tt
-root-number (fin true (suc m) e) p h = absurd (true≢false (sym (minus-below m e) ∙ is-false (lt (fin true (suc m) e) nought) (le→not-lt (fin true (suc m) e) nought tt tt h)))
+root-number (fin s Nat.zero e) p h = unfold isNan in tt
+root-number (fin true (suc m) e) p h =
+    absurd (true≢false (sym (minus-below m e) ∙ is-false (lt (fin true (suc m) e) zero) (le→not-lt (fin true (suc m) e) zero tt tt h)))
 root-number (fin false (suc m) e) p h = over-number _ (units-over binary32 _ _)
 
 pub asin-sized : (s : Float) → Sized 0 s → Sized 7 (asinOf s)
@@ -145,7 +153,10 @@ unfolding asinOf
 asin-sized s h =
     let less : Sized 1 (one ⊖ s) = sized-sub 1 (sized 0 (unfold le neg in tt) (unfold le in tt)) h (unfold le add round in tt) in
     let more : Sized 1 (one ⊕ s) = sized-add 1 (sized 0 (unfold le neg in tt) (unfold le in tt)) h (unfold le add round in tt) in
-    let low : T (le nought (one ⊖ s)) = le-trans-float nought (one ⊖ one) (one ⊖ s) (unfold le sub round in tt) (from-in binary32 one (neg one) one s tt (neg-finite one tt) tt (h .within) .at-least) in
-    let high : T (le nought (one ⊕ s)) = le-trans-float nought (one ⊕ neg one) (one ⊕ s) (unfold le add neg round in tt) (add-in binary32 one (neg one) one s tt (neg-finite one tt) tt (h .within) .at-least) in
+    let low : T (le zero (one ⊖ s)) = le-trans-float zero (one ⊖ one) (one ⊖ s) (unfold le sub round in tt)
+    (from-in binary32 one (neg one) one s tt (neg-finite one tt) tt (h .within) .at-least) in
+    let high : T (le zero (one ⊕ s)) = le-trans-float zero (one ⊕ neg one) (one ⊕ s) (unfold le add neg round in tt)
+    (add-in binary32 one (neg one) one s tt (neg-finite one tt) tt (h .within) .at-least) in
     atan2-sized s (sqrtOf binary32 ((one ⊖ s) ⊗ (one ⊕ s))) (sized-finite h)
-    (root-number ((one ⊖ s) ⊗ (one ⊕ s)) (sized-finite (sized-mul 2 less more (unfold le mul round in tt))) (mul-not-neg binary32 (one ⊖ s) (one ⊕ s) (sized-finite less) (sized-finite more) low high (unfold fits in tt)))
+    (root-number ((one ⊖ s) ⊗ (one ⊕ s)) (sized-finite (sized-mul 2 less more (unfold le mul round in tt)))
+    (mul-not-neg binary32 (one ⊖ s) (one ⊕ s) (sized-finite less) (sized-finite more) low high (unfold fits in tt)))

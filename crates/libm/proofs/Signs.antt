@@ -1,4 +1,5 @@
--- What the tests of `sqrtf` and `logf` say of a float, and its root or logarithm where it is not positive and finite: by cases of what a float is. Assumes nothing.
+-- What the tests of `sqrtf` and `logf` say of a float, and its root or logarithm where it is not positive and finite: by cases of
+-- what a float is. Assumes nothing.
 use Prim.Native.Nat.{_%_, _*_, _+_, _-_, _/_, _<_, _^_, _≤_, suc, zero, ℕ}
 use lib.Dec.{T, eqb, eqb→eq, leb, ltb, ltb→lt, lt→ltb}
 use lib.Ieee.{Float, binary32, down, eq, fin, fits, inf, isNan, lt, nan, ofBits, size, toBits, up}
@@ -10,7 +11,8 @@ use lib.Pow.{pow-pos}
 use mathlib.Core.Bool.{Bool, _&&_, false, not, true}
 use mathlib.Core.Logic.{inl, inr}
 use mathlib.Core.Path.{_∙_, _≡_, ap, refl, subst, sym}
-use native.Mathlib.Nat.{div-lt-iff-lt-mul, eq-zero-or-pos, le-of-eq, lt-irrefl, lt-of-le-of-lt, mul-lt-mul-of-pos-right, mul-pos, mul-right-comm, not-le-of-lt, zero-lt-suc, zero-mul}
+use native.Mathlib.Nat.{div-lt-iff-lt-mul, eq-zero-or-pos, le-of-eq, lt-irrefl, lt-of-le-of-lt, mul-lt-mul-of-pos-right, mul-pos}
+use native.Mathlib.Nat.{mul-right-comm, not-le-of-lt, zero-lt-suc, zero-mul}
 use native.Mathlib.Omega.{arith}
 use Rattle.libm.specs.Log.{lnOf}
 use Rattle.libm.specs.Sqrt.{sqrtOf}
@@ -52,7 +54,8 @@ bits-finite m e f =
     let n = a * 2 ^ 149 / d in
     let k = size n - 24 in
     let l : a < 2 ^ 128 * d = ltb→lt a (2 ^ 128 * d) (and-r (eqb (suc m % 2) 1 && ltb (suc m) (2 ^ 24) && leb d (2 ^ 149)) (ltb a (2 ^ 128 * d)) f) in
-    let n-lt : n < 2 ^ 277 = div-lt-iff-lt-mul (down-pos e) .1 (subst (λ (x : ℕ). a * 2 ^ 149 < x) (mul-right-comm (2 ^ 128) d (2 ^ 149)) (mul-lt-mul-of-pos-right l (pow-pos 149))) in
+    let n-lt : n < 2 ^ 277 = div-lt-iff-lt-mul (down-pos e) .1
+    (subst (λ (x : ℕ). a * 2 ^ 149 < x) (mul-right-comm (2 ^ 128) d (2 ^ 149)) (mul-lt-mul-of-pos-right l (pow-pos 149))) in
     total k (n / 2 ^ k) (few (size n) (size-le n 277 n-lt)) (kept-lt 24 n)
   where
     few : (z : ℕ) → z ≤ 277 → z - 24 ≤ 253
@@ -79,7 +82,9 @@ by-zero P p nan h = absurd (subst T (sym h) tt)
 by-zero P p (inf s) h = absurd (subst T (sym h) tt)
 by-zero P p (fin s zero e) h = p s e
 by-zero P p (fin s (suc m) e) h =
-    absurd (lt-irrefl 0 (subst (λ (x : ℕ). 0 < x) (eqb→eq (suc m * up e * 1) (0 * down e) (and-l (eqb (suc m * up e * 1) (0 * down e)) _ (subst T (sym h) tt)) ∙ zero-mul (down e)) (size-pos m e)))
+    absurd (lt-irrefl 0 (subst (λ (x : ℕ). 0 < x)
+    (eqb→eq (suc m * up e * 1) (0 * down e) (and-l (eqb (suc m * up e * 1) (0 * down e)) _ (subst T (sym h) tt)) ∙ zero-mul (down e))
+    (size-pos m e)))
 
 pub zero-is-root : (x : Float) → eq x (ofBits binary32 0) ≡ true → x ≡ sqrtOf binary32 x
 unfolding sqrtOf
@@ -91,7 +96,8 @@ zero-has-ln = by-zero (λ (x : Float). lnOf x ≡ inf true) (λ s e. refl)
 
 -- ---- neither
 
-by-rest : (P : Float → Type 0) → P nan → P (inf true) → ((m : ℕ) (e : ℤ) → P (fin true (suc m) e)) → (x : Float) → lt (ofBits binary32 0) x ≡ false → eq x (ofBits binary32 0) ≡ false → P x
+by-rest : (P : Float → Type 0) → P nan → P (inf true) → ((m : ℕ) (e : ℤ) → P (fin true (suc m) e)) → (x : Float) → lt (ofBits binary32 0) x ≡ false
+    → eq x (ofBits binary32 0) ≡ false → P x
 unfolding lt eq ofBits
 by-rest P n i p nan h k = n
 by-rest P n i p (inf true) h k = i
@@ -99,7 +105,8 @@ by-rest P n i p (inf false) h k = absurd (subst T h tt)
 by-rest P n i p (fin true zero e) h k = absurd (subst T (simp zero-mul at k) tt)
 by-rest P n i p (fin false zero e) h k = absurd (subst T (simp zero-mul at k) tt)
 by-rest P n i p (fin true (suc m) e) h k = p m e
-by-rest P n i p (fin false (suc m) e) h k = absurd (subst T h (lt→ltb (0 * down e) (suc m * up e * 1) (lt-of-le-of-lt (le-of-eq (zero-mul (down e))) (size-pos m e))))
+by-rest P n i p (fin false (suc m) e) h k =
+    absurd (subst T h (lt→ltb (0 * down e) (suc m * up e * 1) (lt-of-le-of-lt (le-of-eq (zero-mul (down e))) (size-pos m e))))
 
 pub rest-has-no-root : (x : Float) → lt (ofBits binary32 0) x ≡ false → eq x (ofBits binary32 0) ≡ false → sqrtOf binary32 x ≡ nan
 unfolding sqrtOf

@@ -1,4 +1,5 @@
--- A number above 0 as m · 2 ^ n, which ln takes apart: m is at least 0.70710677 and less than its double, and the product is exact. By its pattern, too, as the code takes it apart. Assumes nothing.
+-- A number above 0 as m · 2 ^ n, which ln takes apart: m is at least 0.70710677 and less than its double, and the product is exact.
+-- By its pattern, too, as the code takes it apart. Assumes nothing.
 use Prim.Native.Nat.{_%_, _*_, _+_, _-_, _/_, _<_, _^_, _≤_, suc, zero, ℕ}
 use lib.Arith.{le→nltb}
 use lib.Count.{trailingZeros}
@@ -14,7 +15,9 @@ use mathlib.Core.Logic.{inl, inr}
 use mathlib.Core.Path.{_∙_, _≡_, ap, refl, subst, sym}
 use mir.Syntax.{w64}
 use mir.Val.{SFits}
-use native.Mathlib.Nat.{add-assoc, div-one, eq-zero-or-pos, le-antisymm, le-of-eq, le-of-mul-le-mul-right, le-of-suc-le-suc, le-trans, lt-of-mul-lt-mul-right, lt-irrefl, lt-of-lt-of-le, lt-of-not-le, mul-le-mul-right, mul-one, not-le-of-lt, one-mul, zero-add, zero-mul}
+use native.Mathlib.Nat.{add-assoc, div-one, eq-zero-or-pos, le-antisymm, le-of-eq, le-of-mul-le-mul-right, le-of-suc-le-suc}
+use native.Mathlib.Nat.{le-trans, lt-of-mul-lt-mul-right, lt-irrefl, lt-of-lt-of-le, lt-of-not-le, mul-le-mul-right, mul-one}
+use native.Mathlib.Nat.{not-le-of-lt, one-mul, zero-add, zero-mul}
 use native.Mathlib.Omega.{arith}
 use Rattle.float.proofs.Exact.{round-held}
 use Rattle.float.proofs.Differences.{minus-down, minus-plus, minus-same, minus-up, sub-minus}
@@ -24,7 +27,7 @@ use Rattle.float.specs.Notation.{one}
 use Rattle.libm.proofs.Signs.{bits-finite}
 use Rattle.libm.proofs.RootValues.{subnormal}
 use Rattle.libm.specs.Contracts.{Binary, SplitOf}
-use Rattle.libm.specs.Log.{exponentOf, least, lnOf, lnOfParts, mantissaOf, places}
+use Rattle.libm.specs.Log.{exponentOf, least, lnOf, lnOfParts, mantissaOf, shift}
 
 -- ---- an exponent from -149 to 128 as a float holds it
 pub binary-in-float : (n : ℤ) → Binary n → T (inFloat binary32 n)
@@ -45,7 +48,7 @@ minus-binary a b h k = go (leb b a) (leb→le b a) (nleb→lt b a)
     go true l g = record { at-least = tt; at-most = le→leb (a - b) 128 (omega arith) }
     go false l g = let u = g tt in record { at-least = le→leb (b - suc a) 148 (omega arith); at-most = tt }
 
--- ---- w lowered by k places against c / 2 ^ (j + 1)
+-- ---- w lowered by k shift against c / 2 ^ (j + 1)
 less-lowered : (w k c j : ℕ) → lt (fin false w (minus 0 k)) (fin false c (negsuc j)) ≡ ltb (w * 2 ^ suc j) (c * 2 ^ k)
 unfolding lt
 less-lowered w zero c j = ap (λ (x : ℕ). ltb (x * 2 ^ suc j) (c * 1 * 1)) (mul-one w) ∙ ap (λ (x : ℕ). ltb (w * 2 ^ suc j) x) (mul-one (c * 1))
@@ -69,9 +72,9 @@ module _ (w : ℕ) (some : 0 < w) where
   doubled = ap (λ (x : ℕ). 2 ^ x) (omega (arith, size-some)) ∙ pow-add 2 (size w - 1) 1
 
   -- by whether w lowered by its digits is under the least mantissa
-  places-in : (11863283 * 2 ^ places w ≤ w * 16777216) × (w * 8388608 < 11863283 * 2 ^ places w)
-  unfolding places round
-  places-in = go (lt (fin false w (minus 0 (size w))) least) (sym (less-lowered w (size w) 11863283 23))
+  shift-in : (11863283 * 2 ^ shift w ≤ w * 16777216) × (w * 8388608 < 11863283 * 2 ^ shift w)
+  unfolding shift round
+  shift-in = go (lt (fin false w (minus 0 (size w))) least) (sym (less-lowered w (size w) 11863283 23))
     where
       go : (t : Bool) → ltb (w * 16777216) (11863283 * 2 ^ size w) ≡ t
           → (11863283 * 2 ^ cond t (size w - 1) (size w) ≤ w * 16777216) × (w * 8388608 < 11863283 * 2 ^ cond t (size w - 1) (size w))
@@ -80,9 +83,11 @@ module _ (w : ℕ) (some : 0 < w) where
           (omega (arith, reaches), omega (arith, u, doubled))
       go false h = (nltb→le (w * 16777216) (11863283 * 2 ^ size w) (rw h tt), omega (arith, size-lt w))
 
-  -- there is one such number of places only
+  -- there is one such number of shift only
   closer : (a b : ℕ) → 11863283 * 2 ^ a ≤ w * 16777216 → w * 8388608 < 11863283 * 2 ^ b → a ≤ b
-  closer a b h k = le-of-suc-le-suc (lt-of-not-le (λ (g : suc b ≤ a). far (2 ^ a) (2 ^ b) (le-trans (le-of-eq (sym (pow-add 2 b 1))) (pow-mono (subst (λ (x : ℕ). x ≤ a) (sym (add-one b)) g))) h k))
+  closer a b h k =
+      le-of-suc-le-suc (lt-of-not-le (λ (g : suc b ≤ a). far (2 ^ a) (2 ^ b)
+      (le-trans (le-of-eq (sym (pow-add 2 b 1))) (pow-mono (subst (λ (x : ℕ). x ≤ a) (sym (add-one b)) g))) h k))
     where
       add-one : (b : ℕ) → b + 1 ≡ suc b
       add-one b = omega arith
@@ -90,15 +95,16 @@ module _ (w : ℕ) (some : 0 < w) where
       far : (x y : ℕ) → y * 2 ≤ x → 11863283 * x ≤ w * 16777216 → w * 8388608 < 11863283 * y → ⊥
       far x y g h k = omega arith
 
-  pub places-only : (k : ℕ) → 11863283 * 2 ^ k ≤ w * 16777216 → w * 8388608 < 11863283 * 2 ^ k → places w ≡ k
-  places-only k h l = le-antisymm (closer (places w) k (places-in .0) l) (closer k (places w) h (places-in .1))
+  pub shift-only : (k : ℕ) → 11863283 * 2 ^ k ≤ w * 16777216 → w * 8388608 < 11863283 * 2 ^ k → shift w ≡ k
+  shift-only k h l = le-antisymm (closer (shift w) k (shift-in .0) l) (closer k (shift w) h (shift-in .1))
 
   pub mantissa-in : (e : ℤ) → T (le least (mantissaOf (fin false w e))) × T (lt (mantissaOf (fin false w e)) twice)
   unfolding mantissaOf round
   mantissa-in e =
-      let k = places w in (
-        not-lt→le (fin false w (minus 0 k)) least (unfold isNan in tt) (unfold isNan round in tt) (rw (less-lowered w k 11863283 23) (le→nltb (w * 16777216) (11863283 * 2 ^ k) (places-in .0))),
-        rw (less-lowered w k 11863283 22) (lt→ltb (w * 8388608) (11863283 * 2 ^ k) (places-in .1)),
+      let k = shift w in (
+        not-lt→le (fin false w (minus 0 k)) least (unfold isNan in tt) (unfold isNan round in tt)
+            (rw (less-lowered w k 11863283 23) (le→nltb (w * 16777216) (11863283 * 2 ^ k) (shift-in .0))),
+        rw (less-lowered w k 11863283 22) (lt→ltb (w * 8388608) (11863283 * 2 ^ k) (shift-in .1)),
       )
 
 -- ---- and the product is exact: 2 ^ n more is n more in the exponent
@@ -116,12 +122,12 @@ unfolding mantissaOf exponentOf
 split-exact nan = refl
 split-exact (inf s) = refl
 split-exact (fin s w e) =
-    let k = pos (places w) in
-    ap (λ (z : ℤ). fin s w z) (ap (λ (z : ℤ). z +ℤ (e +ℤ k)) (below-zero (places w)) ∙ +ℤ-comm (negℤ k) (e +ℤ k) ∙ +ℤ-negℤ-cancel e k)
+    let k = pos (shift w) in
+    ap (λ (z : ℤ). fin s w z) (ap (λ (z : ℤ). z +ℤ (e +ℤ k)) (below-zero (shift w)) ∙ +ℤ-comm (negℤ k) (e +ℤ k) ∙ +ℤ-negℤ-cancel e k)
 
--- ---- of q = w · 2 ^ z: the places are those of q as it stands
-places-at : (q z w k n : ℕ) → 0 < w → w * 2 ^ z ≡ q → 2 ^ k * 2 ^ z ≡ n → 11863283 * n ≤ q * 16777216 → q * 8388608 < 11863283 * n → places w ≡ k
-places-at q z w k n p e f h l = places-only w p k (low (2 ^ k) (2 ^ z) e f (pow-pos z)) (high (2 ^ k) (2 ^ z) e f)
+-- ---- of q = w · 2 ^ z: the shift are those of q as it stands
+shift-at : (q z w k n : ℕ) → 0 < w → w * 2 ^ z ≡ q → 2 ^ k * 2 ^ z ≡ n → 11863283 * n ≤ q * 16777216 → q * 8388608 < 11863283 * n → shift w ≡ k
+shift-at q z w k n p e f h l = shift-only w p k (low (2 ^ k) (2 ^ z) e f (pow-pos z)) (high (2 ^ k) (2 ^ z) e f)
   where
     low : (x y : ℕ) → w * y ≡ q → x * y ≡ n → 0 < y → 11863283 * x ≤ w * 16777216
     low x y e f p = le-of-mul-le-mul-right {k = y} (omega arith) p
@@ -139,7 +145,8 @@ unfolding odd
 zeros-out (suc q) p =
     let z = trailingZeros 24 (suc q) in
     let w = suc q / 2 ^ z in
-    let e : w * 2 ^ (0 + z - 0) * 1 ≡ suc q * 1 * 1 = subst (λ (k : ℤ). w * up k * 1 ≡ suc q * 1 * down k) (minus-up (0 + z) 0 (omega arith)) (odd-val 24 false (suc q) 0 0) in
+    let e : w * 2 ^ (0 + z - 0) * 1 ≡ suc q * 1 * 1 = subst (λ (k : ℤ). w * up k * 1 ≡ suc q * 1 * down k) (minus-up (0 + z) 0 (omega arith))
+    (odd-val 24 false (suc q) 0 0) in
     ap (λ (x : ℕ). w * 2 ^ x) (same z) ∙ sym (mul-one (w * 2 ^ (0 + z - 0))) ∙ e ∙ mul-one (suc q * 1) ∙ mul-one (suc q)
   where
     same : (z : ℕ) → z ≡ 0 + z - 0
@@ -147,7 +154,8 @@ zeros-out (suc q) p =
 
 odd-part-some : (q : ℕ) → 0 < q → 0 < q / 2 ^ trailingZeros 24 q
 odd-part-some q p = elim (eq-zero-or-pos (q / 2 ^ trailingZeros 24 q)) [
-  | inl e ↦ absurd (lt-irrefl 0 (subst (λ (x : ℕ). 0 < x) (sym (zeros-out q p) ∙ ap (λ (x : ℕ). x * 2 ^ trailingZeros 24 q) e ∙ zero-mul (2 ^ trailingZeros 24 q)) p))
+  | inl e ↦ absurd (lt-irrefl 0 (subst (λ (x : ℕ). 0 < x)
+      (sym (zeros-out q p) ∙ ap (λ (x : ℕ). x * 2 ^ trailingZeros 24 q) e ∙ zero-mul (2 ^ trailingZeros 24 q)) p))
   | inr h ↦ h
 ]
 
@@ -159,21 +167,21 @@ ln-some (suc w) e p = refl
 ln-odd : (q x : ℕ) → 0 < q → lnOf (odd 24 false q x 149) ≡ lnOfParts (mantissaOf (odd 24 false q x 149)) (exponentOf (odd 24 false q x 149))
 ln-odd q x p = rw (odd-is q x p) (ln-some (q / 2 ^ trailingZeros 24 q) (minus (x + trailingZeros 24 q) 149) (odd-part-some q p))
 
-exponent-at : (q x : ℕ) → 0 < q → exponentOf (odd 24 false q x 149) ≡ minus (x + (trailingZeros 24 q + places (q / 2 ^ trailingZeros 24 q))) 149
+exponent-at : (q x : ℕ) → 0 < q → exponentOf (odd 24 false q x 149) ≡ minus (x + (trailingZeros 24 q + shift (q / 2 ^ trailingZeros 24 q))) 149
 unfolding exponentOf
 exponent-at q x p =
     let z = trailingZeros 24 q in
-    let k = places (q / 2 ^ z) in
+    let k = shift (q / 2 ^ z) in
     ap exponentOf (odd-is q x p) ∙ minus-plus (x + z) 149 k ∙ ap (λ (a : ℕ). minus a 149) (add-assoc x z k)
 
-parts : (q x y : ℕ) → 0 < q → trailingZeros 24 q + places (q / 2 ^ trailingZeros 24 q) + y ≡ 149
+parts : (q x y : ℕ) → 0 < q → trailingZeros 24 q + shift (q / 2 ^ trailingZeros 24 q) + y ≡ 149
     → (odd 24 false q y 149 ≡ mantissaOf (odd 24 false q x 149)) × (minus x y ≡ exponentOf (odd 24 false q x 149))
 unfolding mantissaOf
 parts q x y p e =
     let z = trailingZeros 24 q in
     let w = q / 2 ^ z in (
-      odd-is q y p ∙ ap (λ (k : ℤ). fin false w k) (minus-same (y + z) 149 0 (places w) (omega (arith, e))) ∙ sym (ap mantissaOf (odd-is q x p)),
-      minus-same x y (x + (z + places w)) 149 (omega (arith, e)) ∙ sym (exponent-at q x p),
+      odd-is q y p ∙ ap (λ (k : ℤ). fin false w k) (minus-same (y + z) 149 0 (shift w) (omega (arith, e))) ∙ sym (ap mantissaOf (odd-is q x p)),
+      minus-same x y (x + (z + shift w)) 149 (omega (arith, e)) ∙ sym (exponent-at q x p),
     )
 
 -- ---- by the pattern: 1065353216 is that of 1, 1060439283 that of 0.70710677
@@ -192,19 +200,22 @@ module _ (b : ℕ) (from : 8388608 ≤ b) (under : b < 2139095040) where
 
   -- 24 digits end in 23 zeros at most
   few : zeros ≤ 23
-  few = le-of-suc-le-suc (lt-of-not-le (λ (h : 24 ≤ zeros). none (digits / 2 ^ zeros) (2 ^ zeros) (zeros-out digits (omega arith)) (odd-part-some digits (omega arith)) (pow-mono {i = 24} {j = zeros} h)))
+  few =
+      le-of-suc-le-suc (lt-of-not-le (λ (h : 24 ≤ zeros). none (digits / 2 ^ zeros) (2 ^ zeros) (zeros-out digits (omega arith))
+      (odd-part-some digits (omega arith)) (pow-mono {i = 24} {j = zeros} h)))
     where
       none : (w y : ℕ) → w * y ≡ digits → 0 < w → 16777216 ≤ y → ⊥
       none w y e p h = omega (arith, mul-le-mul-right y p)
 
   -- by how much they are lowered to become n / 2 ^ 24
-  lowered-by : (k n : ℕ) → zeros ≤ k → 2 ^ k ≡ n → 11863283 * n ≤ digits * 16777216 → digits * 8388608 < 11863283 * n → zeros + places (digits / 2 ^ zeros) ≡ k
+  lowered-by : (k n : ℕ) → zeros ≤ k → 2 ^ k ≡ n → 11863283 * n ≤ digits * 16777216 → digits * 8388608 < 11863283 * n → zeros + shift (digits / 2 ^ zeros) ≡ k
   lowered-by k n f e h l =
-      let p = places-at digits zeros (digits / 2 ^ zeros) (k - zeros) n (odd-part-some digits (omega arith)) (zeros-out digits (omega arith)) (sym (pow-add 2 (k - zeros) zeros) ∙ ap (λ (x : ℕ). 2 ^ x) (back k zeros f) ∙ e) h l in
+      let p = shift-at digits zeros (digits / 2 ^ zeros) (k - zeros) n (odd-part-some digits (omega arith)) (zeros-out digits (omega arith))
+      (sym (pow-add 2 (k - zeros) zeros) ∙ ap (λ (x : ℕ). 2 ^ x) (back k zeros f) ∙ e) h l in
       omega (arith, f, p)
 
   -- y + 1 in the mantissa's field
-  split-by : (y : ℕ) → y ≤ 126 → zeros + places (digits / 2 ^ zeros) + y ≡ 149 → above b % 8388608 + 1060439283 ≡ suc y * 8388608 + b % 8388608
+  split-by : (y : ℕ) → y ≤ 126 → zeros + shift (digits / 2 ^ zeros) + y ≡ 149 → above b % 8388608 + 1060439283 ≡ suc y * 8388608 + b % 8388608
       → above b / 8388608 + y ≡ field + 127 → SplitOf (ofBits binary32 b) (ofBits binary32 (above b % 8388608 + 1060439283)) (minus (above b / 8388608) 127)
   split-by y most z m n =
       let v = normal field (b % 8388608) b (omega arith) (omega arith) (omega arith) in
@@ -219,13 +230,15 @@ module _ (b : ℕ) (from : 8388608 ≤ b) (under : b < 2139095040) where
   pub split-pattern : SplitOf (ofBits binary32 b) (ofBits binary32 (above b % 8388608 + 1060439283)) (minus (above b / 8388608) 127)
   split-pattern = go (ltb digits 11863283) (ltb→lt digits 11863283) (nltb→le digits 11863283)
     where
-      go : (s : Bool) → (T s → digits < 11863283) → (T (not s) → 11863283 ≤ digits) → SplitOf (ofBits binary32 b) (ofBits binary32 (above b % 8388608 + 1060439283)) (minus (above b / 8388608) 127)
+      go : (s : Bool) → (T s → digits < 11863283) → (T (not s) → 11863283 ≤ digits)
+          → SplitOf (ofBits binary32 b) (ofBits binary32 (above b % 8388608 + 1060439283)) (minus (above b / 8388608) 127)
       go true l g =
           let h = l tt in
           split-by 126 (omega arith) (ap (λ (x : ℕ). x + 126) (lowered-by 23 8388608 few refl (omega arith) (omega arith))) (omega arith) (omega arith)
       go false l g =
           let h = g tt in
-          split-by 125 (omega arith) (ap (λ (x : ℕ). x + 125) (lowered-by 24 16777216 (omega (arith, few)) refl (omega arith) (omega arith))) (omega arith) (omega arith)
+          split-by 125 (omega arith) (ap (λ (x : ℕ). x + 125) (lowered-by 24 16777216 (omega (arith, few)) refl (omega arith) (omega arith)))
+          (omega arith) (omega arith)
 
   pub ln-pattern : (m : Float) (n : ℤ) → SplitOf (ofBits binary32 b) m n → lnOfParts m n ≡ lnOf (ofBits binary32 b)
   ln-pattern m n s =
@@ -237,7 +250,9 @@ pattern-from : (w z : ℕ) → 1 ≤ w * 2 ^ z → 8388608 ≤ toBits binary32 (
 unfolding toBits
 pattern-from w z h =
     let n = w * 2 ^ z * 2 ^ 149 / 1 in
-    let more : 2 ^ 24 ≤ n = subst (λ (x : ℕ). 2 ^ 24 ≤ x) (sym (div-one (w * 2 ^ z * 2 ^ 149))) (le-trans (pow-mono {i = 24} {j = 149} (omega arith)) (subst (λ (x : ℕ). x ≤ w * 2 ^ z * 2 ^ 149) (one-mul (2 ^ 149)) (mul-le-mul-right (2 ^ 149) h))) in
+    let more : 2 ^ 24 ≤ n = subst (λ (x : ℕ). 2 ^ 24 ≤ x) (sym (div-one (w * 2 ^ z * 2 ^ 149)))
+    (le-trans (pow-mono {i = 24} {j = 149} (omega arith))
+    (subst (λ (x : ℕ). x ≤ w * 2 ^ z * 2 ^ 149) (one-mul (2 ^ 149)) (mul-le-mul-right (2 ^ 149) h))) in
     total (size n) (n / 2 ^ (size n - 24)) (lt-of-not-le (λ (g : size n ≤ 24). not-le-of-lt (size-lt n) (le-trans (pow-mono g) more)))
   where
     total : (k r : ℕ) → 24 < k → 8388608 ≤ 0 + (k - 24) * 8388608 + r
@@ -263,7 +278,8 @@ module _ (b : ℕ) (some : 0 < b) (few : b < 8388608) where
   whole-is =
       let z = trailingZeros 24 b in
       let w = b / 2 ^ z in
-      ap (λ (x : ℕ). round binary32 false x 1) (sym (zeros-out b some)) ∙ round-held binary32 false w (pos z) (subst (λ (x : Float). T (fits binary32 x)) as-whole held) ∙ sym as-whole
+      ap (λ (x : ℕ). round binary32 false x 1) (sym (zeros-out b some))
+      ∙ round-held binary32 false w (pos z) (subst (λ (x : Float). T (fits binary32 x)) as-whole held) ∙ sym as-whole
 
   pub whole-number : T (not (isNan (ofInt binary32 (pos b))))
   unfolding isNan
@@ -275,7 +291,10 @@ module _ (b : ℕ) (some : 0 < b) (few : b < 8388608) where
       let z = trailingZeros 24 b in
       let w = b / 2 ^ z in
       let x : ofInt binary32 (pos b) ≡ fin false w (pos z) = whole-is ∙ as-whole in
-      rw x (pattern-from w z (subst (λ (y : ℕ). 1 ≤ y) (sym (zeros-out b some)) some), pattern-under w (pos z) (odd-part-some b some) (subst (λ (y : Float). T (fits binary32 y)) as-whole held))
+      rw x (
+        pattern-from w z (subst (λ (y : ℕ). 1 ≤ y) (sym (zeros-out b some)) some),
+        pattern-under w (pos z) (odd-part-some b some) (subst (λ (y : Float). T (fits binary32 y)) as-whole held),
+      )
 
   -- which has the same mantissa, and 149 more in the exponent
   same-mantissa : mantissaOf (ofInt binary32 (pos b)) ≡ mantissaOf (ofBits binary32 b)
@@ -283,7 +302,7 @@ module _ (b : ℕ) (some : 0 < b) (few : b < 8388608) where
   same-mantissa = ap mantissaOf (whole-is ∙ odd-is b 149 some) ∙ sym (ap mantissaOf (subnormal b few ∙ odd-is b 0 some))
 
   abbrev up-to : ℕ
-  up-to = trailingZeros 24 b + places (b / 2 ^ trailingZeros 24 b)
+  up-to = trailingZeros 24 b + shift (b / 2 ^ trailingZeros 24 b)
 
   whole-exponent : exponentOf (ofInt binary32 (pos b)) ≡ pos up-to
   whole-exponent = ap exponentOf whole-is ∙ exponent-at b 149 some ∙ minus-up (149 + up-to) 149 (omega arith) ∙ ap pos {y = up-to} (omega arith)
@@ -315,7 +334,13 @@ below-exponent b lo hi =
     let x = ofInt binary32 (pos b) in
     let p = whole-pattern b lo hi in
     let e = split-pattern (toBits binary32 x) (p .0) (p .1) in
-    let s : SplitOf x (mantissaOf x) (exponentOf x) = record { is-mantissa = refl; is-exponent = refl; in-range = subst (λ (y : Float). Binary (exponentOf y)) (ofBits-toBits binary32 x (ofInt-fits binary32 (pos b))) (subst Binary (e .is-exponent) (e .in-range)) } in
+    let s : SplitOf x (mantissaOf x) (exponentOf x) =
+    record {
+      is-mantissa = refl;
+      is-exponent = refl;
+      in-range = subst (λ (y : Float). Binary (exponentOf y)) (ofBits-toBits binary32 x (ofInt-fits binary32 (pos b)))
+          (subst Binary (e .is-exponent) (e .in-range));
+    } in
     subst Binary (lowered-exponent b lo hi) (lowered-binary b lo hi (mantissaOf x) (exponentOf x) s)
 
 pub exponent-in : (b : ℕ) → 0 < b → b < 2139095040 → Binary (exponentOf (ofBits binary32 b))
@@ -344,4 +369,5 @@ pub up-to-one : (w : ℕ) (e : ℤ) (i : ℕ) → 0 < w → T (le (fin false w e
 unfolding exponentOf
 up-to-one w e zero p h n = refl
 up-to-one w e (suc i) p h n =
-    absurd (not-above w (2 ^ places w) (up e) (down e) (2 ^ suc i) (down-pos e) (pow-mono {i = 1} {j = suc i} (omega arith)) (raised e (places w) (suc i) n) (le→cross (fin false w e) one tt tt h) (places-in w p .0))
+    absurd (not-above w (2 ^ shift w) (up e) (down e) (2 ^ suc i) (down-pos e) (pow-mono {i = 1} {j = suc i} (omega arith))
+    (raised e (shift w) (suc i) n) (le→cross (fin false w e) one tt tt h) (shift-in w p .0))

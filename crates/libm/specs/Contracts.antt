@@ -1,4 +1,4 @@
--- What the code's promises name besides the definitions. Nothing here needs believing: `proofs/Turns`, `proofs/Splits` and
+-- What the code's promises name besides the definitions. Nothing here needs believing: `proofs/Exponents`, `proofs/Splits` and
 -- `proofs/Quarters` say in terms of the definitions what each of them is.
 use lib.Dec.{T}
 use lib.Ieee.{Float, eq, le, neg}
@@ -6,19 +6,19 @@ use lib.IntN.{negsuc, pos, ℤ}
 use lib.Signed.{leZ}
 use mathlib.Core.Bool.{_||_, cond}
 use mathlib.Core.Path.{_≡_}
-use Rattle.float.specs.Notation.{_⊕_, _⊖_, _⊗_, half, nought, one, rounded, two}
+use Rattle.float.specs.Notation.{_⊕_, _⊖_, _⊗_, half, zero, one, rounded, two}
 use Rattle.float.specs.Contracts.{wholePart}
-use Rattle.libm.specs.Exp.{turns}
+use Rattle.libm.specs.Exp.{binaryExponent}
 use Rattle.libm.specs.Log.{exponentOf, mantissaOf}
 use Rattle.libm.specs.Trig.{cosNear, quarterTurn, sinNear}
 
--- ---- exp: the turns of an x from -87 to 88 are an exponent from -126 to 127
+-- ---- exp: the binaryExponent of an x from -87 to 88 are an exponent from -126 to 127
 pub record Exponent (k : ℤ) : Type 0 where
   pub at-least : T (leZ (negsuc 125) k)
   pub at-most : T (leZ k (pos 127))
 
-pub record Turned (x : Float) (k : ℤ) : Type 0 where
-  pub is : k ≡ turns x
+pub record ExponentOf (x : Float) (k : ℤ) : Type 0 where
+  pub is : k ≡ binaryExponent x
   pub in-range : Exponent k
 
 -- ---- ln: the exponent of a number above 0 is from -149 to 128
@@ -31,16 +31,16 @@ pub record SplitOf (v m : Float) (n : ℤ) : Type 0 where
   pub is-exponent : n ≡ exponentOf v
   pub in-range : Binary n
 
--- ---- sin and cos: the quarter turns as the code holds them, a float that is a whole number
+-- ---- sin and cos: the quarter binaryExponent as the code holds them, a float that is a whole number
 unfoldable pub wholeQuarters : Float → Float
-wholeQuarters x = wholePart (cond (le nought x) (x ⊗ quarterTurn ⊕ half) (x ⊗ quarterTurn ⊖ half))
+wholeQuarters x = wholePart (cond (le zero x) (x ⊗ quarterTurn ⊕ half) (x ⊗ quarterTurn ⊖ half))
 
 -- by such a q from -3 to 3: it is 0; 1 or -3; 2 or -2; 3 or -1
-unfoldable pub byTurns : Float → Float → Float → Float → Float → Float
-byTurns q i ii iii iv = cond (eq q nought) i (cond (eq q one || eq q (neg (rounded 3 1))) ii (cond (eq q two || eq q (neg two)) iii iv))
+unfoldable pub byQuarters : Float → Float → Float → Float → Float → Float
+byQuarters q i ii iii iv = cond (eq q zero) i (cond (eq q one || eq q (neg (rounded 3 1))) ii (cond (eq q two || eq q (neg two)) iii iv))
 
 unfoldable pub sinBy : Float → Float → Float
-sinBy q r = byTurns q (sinNear r (r ⊗ r)) (cosNear (r ⊗ r)) (neg (sinNear r (r ⊗ r))) (neg (cosNear (r ⊗ r)))
+sinBy q r = byQuarters q (sinNear r (r ⊗ r)) (cosNear (r ⊗ r)) (neg (sinNear r (r ⊗ r))) (neg (cosNear (r ⊗ r)))
 
 unfoldable pub cosBy : Float → Float → Float
-cosBy q r = byTurns q (cosNear (r ⊗ r)) (neg (sinNear r (r ⊗ r))) (neg (cosNear (r ⊗ r))) (sinNear r (r ⊗ r))
+cosBy q r = byQuarters q (cosNear (r ⊗ r)) (neg (sinNear r (r ⊗ r))) (neg (cosNear (r ⊗ r))) (sinNear r (r ⊗ r))

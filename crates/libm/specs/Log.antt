@@ -10,21 +10,21 @@ use Rattle.libm.specs.Exp.{horner}
 abbrev pub least : Float
 least = rounded 70710677 100000000
 
--- By how many binary places w is lowered to become m. Lowered by as many as it has digits it lies from 1 / 2 to below 1; under 0.70710677
+-- By how many binary shift w is lowered to become m. Lowered by as many as it has digits it lies from 1 / 2 to below 1; under 0.70710677
 -- that is one too many.
-unfoldable pub places : ℕ → ℕ
-places w = cond (lt (fin false w (minus 0 (size w))) least) (size w - 1) (size w)
+unfoldable pub shift : ℕ → ℕ
+shift w = cond (lt (fin false w (minus 0 (size w))) least) (size w - 1) (size w)
 
 -- m, and n; neither is asked of anything but a number above 0
 unfoldable pub mantissaOf : Float → Float
 mantissaOf nan = nan
 mantissaOf (inf s) = inf s
-mantissaOf (fin s w e) = fin s w (minus 0 (places w))
+mantissaOf (fin s w e) = fin s w (minus 0 (shift w))
 
 unfoldable pub exponentOf : Float → ℤ
 exponentOf nan = pos 0
 exponentOf (inf s) = pos 0
-exponentOf (fin s w e) = e +ℤ pos (places w)
+exponentOf (fin s w e) = e +ℤ pos (shift w)
 
 -- ---- ln m is 2 · s · (1 + z · (1/3 + z · (1/5 + z · (1/7 + z/9)))) with s = (m - 1) / (m + 1) and z = s · s
 unfoldable pub logSeries : Float → Float

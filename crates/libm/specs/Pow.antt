@@ -2,7 +2,7 @@
 use lib.Ieee.{Float, eq, lt, nan}
 use mathlib.Core.Bool.{cond}
 use Rattle.float.specs.Interval.{inside}
-use Rattle.float.specs.Notation.{_⊗_, nought, one}
+use Rattle.float.specs.Notation.{_⊗_, zero, one}
 use Rattle.libm.specs.Exp.{expOf}
 use Rattle.libm.specs.Log.{lnOf}
 
@@ -12,4 +12,4 @@ atMostOne x = cond (lt one x) one x
 
 -- v to the power e: 0 of 0, none of a v outside 0..1, else the exponential of e times ln v
 unfoldable pub powOf : Float → Float → Float
-powOf v e = cond (eq v nought) nought (cond (inside nought one v) (atMostOne (expOf (e ⊗ lnOf v))) nan)
+powOf v e = cond (eq v zero) zero (cond (inside zero one v) (atMostOne (expOf (e ⊗ lnOf v))) nan)

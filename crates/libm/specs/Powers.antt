@@ -5,11 +5,11 @@ use mathlib.Core.Bool.{false}
 use mathlib.Core.List.{List}
 use Rattle.float.specs.Lists.{listOf}
 
--- what place i says, counted from 0: 2 ^ (i - 126)
+-- entry i, counted from 0: 2 ^ (i - 126)
 unfoldable pub powerAt : ℕ → Float
 powerAt i = fin false 1 (minus i 126)
 
--- one place for each k from -126 to 127
+-- one entry for each k from -126 to 127
 abbrev pub powerCount : ℕ
 powerCount = 254
 

@@ -10,17 +10,17 @@ use native.Mathlib.Nat.{add-suc, add-zero, le-of-lt, suc-add}
 use native.Mathlib.Numerals.{add-one}
 use native.Mathlib.Omega.{arith}
 use Rattle.lines.specs.Glyph.{glyphOf}
-use Rattle.lines.specs.Text.{digitsOf, endText, byteText, placed, placesOf, refusalText}
+use Rattle.lines.specs.Text.{digitsOf, endText, byteText, overwrite, digitCount, refusalText}
 use Rattle.answers.specs.declared.Answer.the-variants.{WrongLength}
 use Rattle.trace.specs.Tick.{tickBytes}
 use borrow.Author.Tests.{eq-eqb, ne-eqb}
 
-pub placed-append : (vs ws l : List ℕ) (i : ℕ) → placed (placed l i vs) (i + length vs) ws ≡ placed l i (vs ++ ws)
-unfolding placed
-placed-append [] ws l i = ap (λ (k : ℕ). sets l k ws) (add-zero i)
-placed-append (v ∷ vs) ws l i =
+pub overwrite-append : (vs ws l : List ℕ) (i : ℕ) → overwrite (overwrite l i vs) (i + length vs) ws ≡ overwrite l i (vs ++ ws)
+unfolding overwrite
+overwrite-append [] ws l i = ap (λ (k : ℕ). sets l k ws) (add-zero i)
+overwrite-append (v ∷ vs) ws l i =
     ap (λ (k : ℕ). sets (sets (set l i v) (suc i) vs) k ws) (add-suc i (length vs) ∙ sym (suc-add i (length vs)))
-    ∙ placed-append vs ws (set l i v) (suc i)
+    ∙ overwrite-append vs ws (set l i v) (suc i)
 
 pub set-behind : (vs l : List ℕ) (i j a : ℕ) → i + length vs ≤ j → sets (set l j a) i vs ≡ set (sets l i vs) j a
 set-behind [] l i j a h = refl
@@ -30,28 +30,28 @@ set-behind (v ∷ vs) l i j a h =
 
 -- `text` was put at `at` on the page p, which gave the page q, and ends at `end`
 pub record Put (p : List ℕ) (at : ℕ) (text q : List ℕ) (end : ℕ) : Type 0 where
-  pub page : q ≡ placed p at text
+  pub page : q ≡ overwrite p at text
   pub next : end ≡ at + length text
 
 -- what the functions that put a text promise
 pub as-put :
-    (p : List ℕ) (at : ℕ) (text q : List ℕ) (end most : ℕ) → (q ≡ placed p at text) × ((end ≡ at + length text) × (end ≤ most))
+    (p : List ℕ) (at : ℕ) (text q : List ℕ) (end most : ℕ) → (q ≡ overwrite p at text) × ((end ≡ at + length text) × (end ≤ most))
     → Put p at text q end
 as-put p at text q end most h = record { page = h .0; next = h .1 .0 }
 
 pub as-byte :
-    (p : List ℕ) (at b : ℕ) (q : List ℕ) (end : ℕ) → (q ≡ placed p at (byteText b)) × (end ≡ at + 1) → Put p at (byteText b) q end
+    (p : List ℕ) (at b : ℕ) (q : List ℕ) (end : ℕ) → (q ≡ overwrite p at (byteText b)) × (end ≡ at + 1) → Put p at (byteText b) q end
 as-byte p at b q end h = record { page = h .0; next = h .1 }
 
 -- no text
 pub nothing-put : (p : List ℕ) (at : ℕ) → Put p at [] p at
-unfolding placed
+unfolding overwrite
 nothing-put p at = record { page = refl; next = sym (add-zero at) }
 
 -- the same text
 pub same-text : {p s t q : List ℕ} {at end : ℕ} → s ≡ t → Put p at s q end → Put p at t q end
 same-text {p} {s} {t} {q} {at} {end} e h =
-    record { page = h .page ∙ ap (placed p at) e; next = h .next ∙ ap (λ (x : List ℕ). at + length x) e }
+    record { page = h .page ∙ ap (overwrite p at) e; next = h .next ∙ ap (λ (x : List ℕ). at + length x) e }
 
 -- a text, and a second one where it ends
 pub then : {p s q t r : List ℕ} {at m n : ℕ} → Put p at s q m → Put q m t r n → Put p at (s ++ t) r n
@@ -59,9 +59,9 @@ then {p} {s} {q} {t} {r} {at} {m} {n} a b =
     record {
       page =
           b .page
-          ∙ ap (λ (x : List ℕ). placed x m t) (a .page)
-          ∙ ap (λ (k : ℕ). placed (placed p at s) k t) (a .next)
-          ∙ placed-append s t p at;
+          ∙ ap (λ (x : List ℕ). overwrite x m t) (a .page)
+          ∙ ap (λ (k : ℕ). overwrite (overwrite p at s) k t) (a .next)
+          ∙ overwrite-append s t p at;
       next = omega (arith, a .next, b .next, length-append s t);
     }
 
@@ -72,43 +72,43 @@ length-digits b (suc k) n =
     length-append (digitsOf b k (n / b)) (byteText (glyphOf (n % b))) ∙ ap (λ (m : ℕ). m + 1) (length-digits b k (n / b)) ∙ add-one k
 
 pub as-digits :
-    (p : List ℕ) (at b k n : ℕ) (q : List ℕ) → q ≡ placed p at (digitsOf b k n) → Put p at (digitsOf b k n) q (at + k)
+    (p : List ℕ) (at b k n : ℕ) (q : List ℕ) → q ≡ overwrite p at (digitsOf b k n) → Put p at (digitsOf b k n) q (at + k)
 as-digits p at b k n q h = record { page = h; next = ap (λ (m : ℕ). at + m) (sym (length-digits b k n)) }
 
 -- the last of i digits stored where it belongs, and then the others
 pub digit-stored :
     (b i j n at : ℕ) (l : List ℕ) → i ≡ suc j
-    → placed (set l (at + j) (glyphOf (n % b))) at (digitsOf b j (n / b)) ≡ placed l at (digitsOf b i n)
-unfolding digitsOf placed
+    → overwrite (set l (at + j) (glyphOf (n % b))) at (digitsOf b j (n / b)) ≡ overwrite l at (digitsOf b i n)
+unfolding digitsOf overwrite
 digit-stored b i j n at l e =
     let xs : List ℕ = digitsOf b j (n / b) in
     let g : ℕ = glyphOf (n % b) in
     let long : length xs ≡ j = length-digits b j (n / b) in
     set-behind xs l at (at + j) g (omega arith)
     ∙ ap (λ (k : ℕ). set (sets l at xs) (at + k) g) (sym long)
-    ∙ placed-append xs (byteText g) l at
+    ∙ overwrite-append xs (byteText g) l at
     ∙ ap (λ (k : ℕ). sets l at (digitsOf b k n)) (sym e)
 
--- a number below 10 has one place, whatever the bound
-pub places-last : (more n : ℕ) → ltb n 10 ≡ true → placesOf more n ≡ 1
-unfolding placesOf
-places-last zero n h = refl
-places-last (suc more) n h = ap (λ (b : Bool). cond b 1 (suc (placesOf more (n / 10)))) h
+-- a number below 10 has one digit, whatever the bound
+pub digit-count-last : (more n : ℕ) → ltb n 10 ≡ true → digitCount more n ≡ 1
+unfolding digitCount
+digit-count-last zero n h = refl
+digit-count-last (suc more) n h = ap (λ (b : Bool). cond b 1 (suc (digitCount more (n / 10)))) h
 
 -- any other has one more than its tenth
-pub places-more : (more less n : ℕ) → more ≡ suc less → ltb n 10 ≡ false → placesOf more n ≡ suc (placesOf less (n / 10))
-unfolding placesOf
-places-more more less n e h =
-    ap (λ (m : ℕ). placesOf m n) e ∙ ap (λ (b : Bool). cond b 1 (suc (placesOf less (n / 10)))) h
+pub digit-count-more : (more less n : ℕ) → more ≡ suc less → ltb n 10 ≡ false → digitCount more n ≡ suc (digitCount less (n / 10))
+unfolding digitCount
+digit-count-more more less n e h =
+    ap (λ (m : ℕ). digitCount m n) e ∙ ap (λ (b : Bool). cond b 1 (suc (digitCount less (n / 10)))) h
 
 -- one more byte of a text
 pub byte-stored :
     (text l : List ℕ) (at i : ℕ) → i < length text
-    → set (placed l at (take i text)) (at + i) (getD text i 0) ≡ placed l at (take (suc i) text)
-unfolding placed
+    → set (overwrite l at (take i text)) (at + i) (getD text i 0) ≡ overwrite l at (take (suc i) text)
+unfolding overwrite
 byte-stored text l at i h =
     ap (λ (k : ℕ). set (sets l at (take i text)) (at + k) (getD text i 0)) (sym (length-take-le i text (le-of-lt h)))
-    ∙ placed-append (take i text) (byteText (getD text i 0)) l at
+    ∙ overwrite-append (take i text) (byteText (getD text i 0)) l at
     ∙ ap (sets l at) (sym (take-suc text i 0 h))
 
 pub end-whole : (n : ℕ) → n % tickBytes ≡ 0 → [] ≡ endText n

@@ -1,6 +1,7 @@
 -- What the lines' text says, the ticks behind them, what a program is asked to read, and what stands before the ticks.
 pub mod Asked
 pub mod Glyph
-pub mod Leg
+pub mod TickLog
 pub mod Opening
 pub mod Text
+pub mod Page

@@ -1,6 +1,5 @@
 -- What stands before the ticks of an input: the airframe's block, and behind an accepted one the state's. Definitions only.
 use Prim.Native.Nat.{ℕ}
-use lib.Dec.{eqb}
 use mathlib.Core.Bool.{Bool, cond}
 use mathlib.Core.List.{List}
 use mathlib.Core.Path.{_≡_}
@@ -10,7 +9,7 @@ use Rattle.airframe_block.specs.Block.{headerBytes, readAirframeOf}
 use Rattle.airframe_block.specs.declared.AirframeRead.{AirframeRead}
 use Rattle.airframe_block.specs.declared.Announced.{Announced}
 use Rattle.airframe_block.specs.declared.Announced.the-variants.{Bytes, Refused}
-use Rattle.answers.specs.Answers.{numberOf}
+use Rattle.answers.specs.Answers.{isDone}
 use Rattle.flight.specs.Envelope.{outsideOf, zeroFlight}
 use Rattle.flight.specs.declared.Flight.{Flight}
 use Rattle.lines.specs.declared.opening.Opened.{Opened}
@@ -32,7 +31,7 @@ withoutState x failed = record { answer = x .answer; airframe = x .airframe; fli
 
 -- what the two reads give: behind a refused airframe there is no state
 unfoldable pub openedBy : AirframeRead → StateRead → Bool → Opened
-openedBy x y failed = cond (eqb (numberOf (x .answer)) 0) (withState (x .airframe) y failed) (withoutState x failed)
+openedBy x y failed = cond (isDone (x .answer)) (withState (x .airframe) y failed) (withoutState x failed)
 
 -- an airframe is what some bytes give
 pub record FromBlock (x : AirframeRead) : Type 0 where

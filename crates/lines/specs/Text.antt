@@ -17,9 +17,9 @@ use Rattle.trace.specs.Tick.{tickBytes}
 use Rattle.vector.specs.declared.Quaternion.{Quaternion}
 use Rattle.vector.specs.declared.Vec3.{Vec3}
 
--- a page with a text put at a place, byte by byte
-unfoldable pub placed : List ℕ → ℕ → List ℕ → List ℕ
-placed page at text = sets page at text
+-- a page with a text put at an index, byte by byte
+unfoldable pub overwrite : List ℕ → ℕ → List ℕ → List ℕ
+overwrite page at text = sets page at text
 
 -- the last k digits of n in the base b, the most significant first
 unfoldable pub digitsOf : ℕ → ℕ → ℕ → List ℕ
@@ -27,13 +27,13 @@ digitsOf b zero n = []
 digitsOf b (suc k) n = digitsOf b k (n / b) ++ (glyphOf (n % b) ∷ [])
 
 -- how many decimal digits n has, at most one and `more`
-unfoldable pub placesOf : ℕ → ℕ → ℕ
-placesOf zero n = 1
-placesOf (suc more) n = cond (ltb n 10) 1 (suc (placesOf more (n / 10)))
+unfoldable pub digitCount : ℕ → ℕ → ℕ
+digitCount zero n = 1
+digitCount (suc more) n = cond (ltb n 10) 1 (suc (digitCount more (n / 10)))
 
 -- n in decimal; a number of 64 bits has at most 20 digits
 unfoldable pub decimalText : ℕ → List ℕ
-decimalText n = digitsOf 10 (placesOf 19 n) n
+decimalText n = digitsOf 10 (digitCount 19 n) n
 
 -- a byte by itself: a space, a newline, the digit 0 and the mark of the reflection
 abbrev pub byteText : ℕ → List ℕ

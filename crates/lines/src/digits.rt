@@ -6,7 +6,9 @@ ghost use lib.Ieee.{binary32};
 ghost use lib.ListN.{length};
 ghost use Rattle.float.specs.Same.{num};
 ghost use Rattle.lines.specs.Glyph.{glyphOf};
-ghost use Rattle.lines.specs.Text.{decimalText, digitsOf, placed, placesOf, wordText};
+ghost use Rattle.lines.specs.Text.{decimalText, digitsOf, overwrite, digitCount, wordText};
+ghost use Rattle.lines.specs.Page.{pageBytes};
+use crate::page::PAGE_BYTES;
 use crate::text;
 
 pub fn wide(n: u32) -> u64
@@ -37,9 +39,9 @@ fn glyph(d: u64) -> u8
 }
 
 // Puts the last k digits of n in the base at `at`.
-fn put_digits(out: &mut [u8; 65536], at: usize, n: u64, base: u64, k: usize)
-    requires { ⌜ 0 < base ⌝ ∗ ⌜ base ≤ 16 ⌝ ∗ ⌜ at + k ≤ 65536 ⌝ }
-    ensures { λ _. ⌜ now (out .exit) ≡ placed (now (out .entry)) at (digitsOf base k n) ⌝ }
+fn put_digits(out: &mut [u8; PAGE_BYTES], at: usize, n: u64, base: u64, k: usize)
+    requires { ⌜ 0 < base ⌝ ∗ ⌜ base ≤ 16 ⌝ ∗ ⌜ at + k ≤ pageBytes ⌝ }
+    ensures { λ _. ⌜ now (out .exit) ≡ overwrite (now (out .entry)) at (digitsOf base k n) ⌝ }
 {
     let mut rest = n;
     let mut i = k;
@@ -51,9 +53,9 @@ fn put_digits(out: &mut [u8; 65536], at: usize, n: u64, base: u64, k: usize)
 }
 
 // Puts a space and the eight hex digits of x at `at`.
-pub fn put_word(out: &mut [u8; 65536], at: usize, x: f32) -> usize
-    requires { ⌜ at + 9 ≤ 65536 ⌝ }
-    ensures page { λ _. ⌜ now (out .exit) ≡ placed (now (out .entry)) at (wordText x) ⌝ }
+pub fn put_word(out: &mut [u8; PAGE_BYTES], at: usize, x: f32) -> usize
+    requires { ⌜ at + 9 ≤ pageBytes ⌝ }
+    ensures page { λ _. ⌜ now (out .exit) ≡ overwrite (now (out .entry)) at (wordText x) ⌝ }
     ensures end { λ r. ⌜ r ≡ at + length (wordText x) ⌝ ∗ ⌜ r ≤ at + 9 ⌝ }
 {
     let digits = text::put_byte(out, at, b' ');
@@ -62,8 +64,8 @@ pub fn put_word(out: &mut [u8; 65536], at: usize, x: f32) -> usize
 }
 
 // How many decimal digits n has.
-fn places(n: u64) -> usize
-    ensures { λ r. ⌜ r ≡ placesOf 19 n ⌝ ∗ ⌜ r ≤ 20 ⌝ }
+fn digit_count(n: u64) -> usize
+    ensures { λ r. ⌜ r ≡ digitCount 19 n ⌝ ∗ ⌜ r ≤ 20 ⌝ }
 {
     let mut rest = n;
     let mut k = 1;
@@ -78,12 +80,12 @@ fn places(n: u64) -> usize
 }
 
 // Puts n in decimal at `at`.
-pub fn put_decimal(out: &mut [u8; 65536], at: usize, n: u64) -> usize
-    requires { ⌜ at + 20 ≤ 65536 ⌝ }
-    ensures page { λ _. ⌜ now (out .exit) ≡ placed (now (out .entry)) at (decimalText n) ⌝ }
+pub fn put_decimal(out: &mut [u8; PAGE_BYTES], at: usize, n: u64) -> usize
+    requires { ⌜ at + 20 ≤ pageBytes ⌝ }
+    ensures page { λ _. ⌜ now (out .exit) ≡ overwrite (now (out .entry)) at (decimalText n) ⌝ }
     ensures end { λ r. ⌜ r ≡ at + length (decimalText n) ⌝ ∗ ⌜ r ≤ at + 20 ⌝ }
 {
-    let k = places(n);
+    let k = digit_count(n);
     put_digits(out, at, n, 10, k);
     at + k
 }

@@ -2,10 +2,12 @@
 ghost use mathlib.Core.Path.{_≡_};
 ghost use Prim.Native.Nat.{_+_, _*_, _≤_};
 ghost use lib.ListN.{length};
-ghost use Rattle.lines.specs.Leg.{legOver, oneMore, tickText};
-ghost use Rattle.lines.specs.Text.{placed};
+ghost use Rattle.lines.specs.TickLog.{logOver, oneMore, tickText};
+ghost use Rattle.lines.specs.Text.{overwrite};
 ghost use Rattle.wing.specs.Tick.{tickOf};
+ghost use Rattle.lines.specs.Page.{lineBytes, pageBytes};
 use crate::line;
+use crate::page::PAGE_BYTES;
 use airframe::Airframe;
 use flight::Flight;
 use flight::Tick;
@@ -29,11 +31,11 @@ pub fn start(f: Flight) -> Flown
 }
 
 // Flies one tick, and puts its line on the page.
-fn fly_one(a: Airframe, p: Flown, t: Tick, out: &mut [u8; 65536]) -> Flown
-    requires { ⌜ p .at + 160 ≤ 65536 ⌝ }
-    ensures { λ _. ⌜ now (out .exit) ≡ placed (now (out .entry)) (p .at) (tickText a (p .flight) (oneMore (p .index)) t) ⌝ }
+fn fly_one(a: Airframe, p: Flown, t: Tick, out: &mut [u8; PAGE_BYTES]) -> Flown
+    requires { ⌜ p .at + lineBytes ≤ pageBytes ⌝ }
+    ensures { λ _. ⌜ now (out .exit) ≡ overwrite (now (out .entry)) (p .at) (tickText a (p .flight) (oneMore (p .index)) t) ⌝ }
     ensures state { λ r. ⌜ r .flight ≡ tickOf a (p .flight) t .flight ⌝ ∗ ⌜ r .index ≡ oneMore (p .index) ⌝ }
-    ensures end { λ r. ⌜ r .at ≡ p .at + length (tickText a (p .flight) (oneMore (p .index)) t) ⌝ ∗ ⌜ r .at ≤ p .at + 160 ⌝ }
+    ensures end { λ r. ⌜ r .at ≡ p .at + length (tickText a (p .flight) (oneMore (p .index)) t) ⌝ ∗ ⌜ r .at ≤ p .at + lineBytes ⌝ }
 {
     let done = wing::tick(a, p.flight, t);
     let report = done.report;
@@ -46,12 +48,12 @@ fn fly_one(a: Airframe, p: Flown, t: Tick, out: &mut [u8; 65536]) -> Flown
 
 // Flies the trace's whole ticks: those of fly's input as it comes, or of a stored flight. Their lines stand at the page's start: a
 // tick has 80 bytes, its line at most 160, and one line more has room behind them.
-pub fn fly_ticks(a: Airframe, p: Flown, trace: &[u8], out: &mut [u8; 65536]) -> Flown
-    requires { ⌜ 2 * length (now trace) ≤ 65376 ⌝ }
-    ensures page { λ _. ⌜ now (out .exit) ≡ placed (now (out .entry)) 0 (legOver a p (now (trace .entry)) .text) ⌝ }
-    ensures flight { λ r. ⌜ r .flight ≡ legOver a p (now (trace .entry)) .flight ⌝ }
-    ensures index { λ r. ⌜ r .index ≡ legOver a p (now (trace .entry)) .index ⌝ }
-    ensures end { λ r. ⌜ r .at ≡ length (legOver a p (now (trace .entry)) .text) ⌝ ∗ ⌜ r .at ≤ 65376 ⌝ }
+pub fn fly_ticks(a: Airframe, p: Flown, trace: &[u8], out: &mut [u8; PAGE_BYTES]) -> Flown
+    requires { ⌜ 2 * length (now trace) + lineBytes ≤ pageBytes ⌝ }
+    ensures page { λ _. ⌜ now (out .exit) ≡ overwrite (now (out .entry)) 0 (logOver a p (now (trace .entry)) .text) ⌝ }
+    ensures flight { λ r. ⌜ r .flight ≡ logOver a p (now (trace .entry)) .flight ⌝ }
+    ensures index { λ r. ⌜ r .index ≡ logOver a p (now (trace .entry)) .index ⌝ }
+    ensures end { λ r. ⌜ r .at ≡ length (logOver a p (now (trace .entry)) .text) ⌝ ∗ ⌜ r .at + lineBytes ≤ pageBytes ⌝ }
 {
     let count = trace::tick_count(trace);
     let mut flown = p;

@@ -2,8 +2,10 @@
 ghost use mathlib.Core.Path.{_≡_};
 ghost use Prim.Native.Nat.{_≤_};
 ghost use Rattle.lines.specs.Asked.{askedBy};
+ghost use Rattle.lines.specs.Page.{pageBytes};
+use crate::errors;
+use crate::page::PAGE_BYTES;
 use crate::text;
-use crate::trouble;
 use libc::STDIN_FILENO;
 
 // What the program is asked to read: the file that its argument names, standard input, or nothing.
@@ -43,20 +45,20 @@ fn open_named(name: &[u8], n: usize) -> i32
 }
 
 // Opens the file that the first argument names.
-fn open_file(program: &[u8], name: &mut [u8; 65536]) -> Input
-    ensures { λ r. ⌜ r .named ≤ 65536 ⌝ }
+fn open_file(program: &[u8], name: &mut [u8; PAGE_BYTES]) -> Input
+    ensures { λ r. ⌜ r .named ≤ pageBytes ⌝ }
 {
     let named = os::arg(1, name);
     let fd = open_named(name, named);
     if fd < 0 {
-        trouble::unopened(program, name, named);
+        errors::unopened(program, name, named);
     }
     Input { fd, named }
 }
 
 // Opens what the program is asked to read, puts its name at the start of `name`, and says so where that cannot be.
-pub fn open_input(program: &[u8], name: &mut [u8; 65536]) -> Input
-    ensures { λ r. ⌜ r .named ≤ 65536 ⌝ }
+pub fn open_input(program: &[u8], name: &mut [u8; PAGE_BYTES]) -> Input
+    ensures { λ r. ⌜ r .named ≤ pageBytes ⌝ }
 {
     let asked = asked_for(os::arg_count(), libc::isatty(STDIN_FILENO) == 1);
     match asked {
@@ -69,7 +71,7 @@ pub fn open_input(program: &[u8], name: &mut [u8; 65536]) -> Input
             }
         }
         Asked::Nothing => {
-            trouble::usage(program);
+            errors::usage(program);
             Input { fd: -1, named: 0 }
         }
     }

@@ -2,8 +2,10 @@
 ghost use mathlib.Core.Path.{_≡_};
 ghost use Prim.Native.Nat.{_+_, _≤_};
 ghost use lib.ListN.{length};
-ghost use Rattle.lines.specs.Text.{attitudeText, bodyText, lineText, mirroredText, placed, restText, vecText};
+ghost use Rattle.lines.specs.Text.{attitudeText, bodyText, lineText, mirroredText, overwrite, restText, vecText};
+ghost use Rattle.lines.specs.Page.{lineBytes, pageBytes};
 use crate::digits;
+use crate::page::PAGE_BYTES;
 use crate::text;
 use answers::Answer;
 use body::Body;
@@ -11,9 +13,9 @@ use flight::Flight;
 use vector::Quaternion;
 use vector::Vec3;
 
-fn put_vec(out: &mut [u8; 65536], at: usize, v: Vec3) -> usize
-    requires { ⌜ at + 27 ≤ 65536 ⌝ }
-    ensures page { λ _. ⌜ now (out .exit) ≡ placed (now (out .entry)) at (vecText v) ⌝ }
+fn put_vec(out: &mut [u8; PAGE_BYTES], at: usize, v: Vec3) -> usize
+    requires { ⌜ at + 27 ≤ pageBytes ⌝ }
+    ensures page { λ _. ⌜ now (out .exit) ≡ overwrite (now (out .entry)) at (vecText v) ⌝ }
     ensures end { λ r. ⌜ r ≡ at + length (vecText v) ⌝ ∗ ⌜ r ≤ at + 27 ⌝ }
 {
     let y = digits::put_word(out, at, v.x);
@@ -21,9 +23,9 @@ fn put_vec(out: &mut [u8; 65536], at: usize, v: Vec3) -> usize
     digits::put_word(out, z, v.z)
 }
 
-fn put_attitude(out: &mut [u8; 65536], at: usize, q: Quaternion) -> usize
-    requires { ⌜ at + 36 ≤ 65536 ⌝ }
-    ensures page { λ _. ⌜ now (out .exit) ≡ placed (now (out .entry)) at (attitudeText q) ⌝ }
+fn put_attitude(out: &mut [u8; PAGE_BYTES], at: usize, q: Quaternion) -> usize
+    requires { ⌜ at + 36 ≤ pageBytes ⌝ }
+    ensures page { λ _. ⌜ now (out .exit) ≡ overwrite (now (out .entry)) at (attitudeText q) ⌝ }
     ensures end { λ r. ⌜ r ≡ at + length (attitudeText q) ⌝ ∗ ⌜ r ≤ at + 36 ⌝ }
 {
     let i = digits::put_word(out, at, q.w);
@@ -33,9 +35,9 @@ fn put_attitude(out: &mut [u8; 65536], at: usize, q: Quaternion) -> usize
 }
 
 // Puts the body's position, velocity, attitude and rates at `at`.
-fn put_body(out: &mut [u8; 65536], at: usize, b: Body) -> usize
-    requires { ⌜ at + 117 ≤ 65536 ⌝ }
-    ensures page { λ _. ⌜ now (out .exit) ≡ placed (now (out .entry)) at (bodyText b) ⌝ }
+fn put_body(out: &mut [u8; PAGE_BYTES], at: usize, b: Body) -> usize
+    requires { ⌜ at + 117 ≤ pageBytes ⌝ }
+    ensures page { λ _. ⌜ now (out .exit) ≡ overwrite (now (out .entry)) at (bodyText b) ⌝ }
     ensures end { λ r. ⌜ r ≡ at + length (bodyText b) ⌝ ∗ ⌜ r ≤ at + 117 ⌝ }
 {
     let velocity = put_vec(out, at, b.position_ned_m);
@@ -45,9 +47,9 @@ fn put_body(out: &mut [u8; 65536], at: usize, b: Body) -> usize
 }
 
 // Puts what follows a line's index at `at`.
-fn put_rest(out: &mut [u8; 65536], at: usize, answer: Answer, f: Flight) -> usize
-    requires { ⌜ at + 139 ≤ 65536 ⌝ }
-    ensures page { λ _. ⌜ now (out .exit) ≡ placed (now (out .entry)) at (restText answer f) ⌝ }
+fn put_rest(out: &mut [u8; PAGE_BYTES], at: usize, answer: Answer, f: Flight) -> usize
+    requires { ⌜ at + 139 ≤ pageBytes ⌝ }
+    ensures page { λ _. ⌜ now (out .exit) ≡ overwrite (now (out .entry)) at (restText answer f) ⌝ }
     ensures end { λ r. ⌜ r ≡ at + length (restText answer f) ⌝ ∗ ⌜ r ≤ at + 139 ⌝ }
 {
     let number = text::put_byte(out, at, b' ');
@@ -57,10 +59,16 @@ fn put_rest(out: &mut [u8; 65536], at: usize, answer: Answer, f: Flight) -> usiz
 }
 
 // Puts the line of the tick `index`, its answer and the state handed back, at `at`.
-pub fn put_line(out: &mut [u8; 65536], at: usize, index: u64, answer: Answer, f: Flight) -> usize
-    requires { ⌜ at + 160 ≤ 65536 ⌝ }
-    ensures page { λ _. ⌜ now (out .exit) ≡ placed (now (out .entry)) at (lineText index answer f) ⌝ }
-    ensures end { λ r. ⌜ r ≡ at + length (lineText index answer f) ⌝ ∗ ⌜ r ≤ at + 160 ⌝ }
+pub fn put_line(
+    out: &mut [u8; PAGE_BYTES],
+    at: usize,
+    index: u64,
+    answer: Answer,
+    f: Flight,
+) -> usize
+    requires { ⌜ at + lineBytes ≤ pageBytes ⌝ }
+    ensures page { λ _. ⌜ now (out .exit) ≡ overwrite (now (out .entry)) at (lineText index answer f) ⌝ }
+    ensures end { λ r. ⌜ r ≡ at + length (lineText index answer f) ⌝ ∗ ⌜ r ≤ at + lineBytes ⌝ }
 {
     let rest = digits::put_decimal(out, at, index);
     put_rest(out, rest, answer, f)
@@ -68,15 +76,15 @@ pub fn put_line(out: &mut [u8; 65536], at: usize, index: u64, answer: Answer, f:
 
 // The same with a mark behind the index, for the flight's reflection.
 pub fn put_mirrored_line(
-    out: &mut [u8; 65536],
+    out: &mut [u8; PAGE_BYTES],
     at: usize,
     index: u64,
     answer: Answer,
     f: Flight,
 ) -> usize
-    requires { ⌜ at + 160 ≤ 65536 ⌝ }
-    ensures page { λ _. ⌜ now (out .exit) ≡ placed (now (out .entry)) at (mirroredText index answer f) ⌝ }
-    ensures end { λ r. ⌜ r ≡ at + length (mirroredText index answer f) ⌝ ∗ ⌜ r ≤ at + 160 ⌝ }
+    requires { ⌜ at + lineBytes ≤ pageBytes ⌝ }
+    ensures page { λ _. ⌜ now (out .exit) ≡ overwrite (now (out .entry)) at (mirroredText index answer f) ⌝ }
+    ensures end { λ r. ⌜ r ≡ at + length (mirroredText index answer f) ⌝ ∗ ⌜ r ≤ at + lineBytes ⌝ }
 {
     let mark = digits::put_decimal(out, at, index);
     let rest = text::put_byte(out, mark, b'\'');

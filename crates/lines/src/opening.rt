@@ -6,10 +6,12 @@ ghost use Rattle.airframe_block.specs.Block.{announcedOf, headerBytes, mostByte
 ghost use Rattle.state_block.specs.Layout.{readFullOf};
 ghost use Rattle.trace.specs.Tick.{tickBytes};
 ghost use Rattle.lines.specs.Opening.{FromBlock, FromBlocks, FromState, wantedBy};
+ghost use Rattle.lines.specs.Page.{pageBytes};
 use crate::input;
 use crate::input::Filled;
 use crate::input::Input;
 use crate::page;
+use crate::page::PAGE_BYTES;
 use airframe::Airframe;
 use airframe_block::AirframeRead;
 use airframe_block::Announced;
@@ -107,7 +109,7 @@ fn read_blocks(fd: i32) -> Opened
     let read = opened.read;
     let answer = read.answer;
     let airframe = read.airframe;
-    if answer.number() == 0 {
+    if answer.is_done() {
         return open_state(fd, airframe);
     }
     Opened {
@@ -119,16 +121,16 @@ fn read_blocks(fd: i32) -> Opened
 }
 
 // The airframe and the state of the input; where they are refused, the refusal is written.
-pub fn open(program: &[u8], name: &[u8; 65536], input: Input) -> Opened
-    requires { ⌜ input .named ≤ 65536 ⌝ }
+pub fn open(program: &[u8], name: &[u8; PAGE_BYTES], input: Input) -> Opened
+    requires { ⌜ input .named ≤ pageBytes ⌝ }
     ensures { λ r. ⌜ FromBlocks r ⌝ }
 {
     let opened = read_blocks(input.fd);
     let answer = opened.answer;
-    if answer.number() != 0 {
+    if !answer.is_done() {
         let mut out = io::large_buffer();
         let end = page::put_refusal(&mut out, 0, answer);
-        page::turn(program, name, input, opened.failed, &out, end);
+        page::flush(program, name, input, opened.failed, &out, end);
     }
     opened
 }
@@ -137,8 +139,8 @@ pub fn open(program: &[u8], name: &[u8; 65536], input: Input) -> Opened
 pub const TICKS_BYTES: usize = 200 * trace::TICK_BYTES;
 
 // Reads the next 200 ticks, or what is left.
-pub fn read_ticks(fd: i32, buf: &mut [u8; 65536]) -> Filled
-    ensures { λ r. ⌜ r .end ≤ 200 * tickBytes ⌝ ∗ ⌜ length (now (buf .exit)) ≡ 65536 ⌝ }
+pub fn read_ticks(fd: i32, buf: &mut [u8; PAGE_BYTES]) -> Filled
+    ensures { λ r. ⌜ r .end ≤ 200 * tickBytes ⌝ ∗ ⌜ length (now (buf .exit)) ≡ pageBytes ⌝ }
 {
     input::fill(fd, buf, 0, TICKS_BYTES)
 }

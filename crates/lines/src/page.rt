@@ -2,13 +2,17 @@
 ghost use mathlib.Core.Path.{_≡_};
 ghost use Prim.Native.Nat.{_+_, _≤_};
 ghost use lib.ListN.{length};
-ghost use Rattle.lines.specs.Text.{endText, placed, refusalText};
+ghost use Rattle.lines.specs.Text.{endText, overwrite, refusalText};
+ghost use Rattle.lines.specs.Page.{lineBytes, pageBytes};
 use crate::digits;
+use crate::errors;
 use crate::input::Input;
 use crate::text;
-use crate::trouble;
 use answers::Answer;
 use libc::STDOUT_FILENO;
+
+// A page: one buffer of text or of ticks.
+pub const PAGE_BYTES: usize = 65536;
 
 // Writes the first `at` bytes of `out`, and answers whether all were taken.
 fn write(out: &[u8], at: usize) -> bool
@@ -19,32 +23,32 @@ fn write(out: &[u8], at: usize) -> bool
 
 // Writes the page up to `at`, and answers whether all went well. If not, it says what went wrong: with writing the page or, where
 // `failed` says so, with reading what it was made of.
-pub fn turn(
+pub fn flush(
     program: &[u8],
-    name: &[u8; 65536],
+    name: &[u8; PAGE_BYTES],
     input: Input,
     failed: bool,
-    out: &[u8; 65536],
+    out: &[u8; PAGE_BYTES],
     at: usize,
 ) -> bool
-    requires { ⌜ input .named ≤ 65536 ⌝ ∗ ⌜ at ≤ 65536 ⌝ }
+    requires { ⌜ input .named ≤ pageBytes ⌝ ∗ ⌜ at ≤ pageBytes ⌝ }
 {
     if !write(out, at) {
-        trouble::unwritten(program);
+        errors::unwritten(program);
         return false;
     }
     if failed {
-        trouble::unread(program, name, input.named);
+        errors::unread(program, name, input.named);
         return false;
     }
     true
 }
 
 // Puts the line of a refused read at `at`: 0, its answer and its place.
-pub fn put_refusal(out: &mut [u8; 65536], at: usize, answer: Answer) -> usize
-    requires { ⌜ at + 160 ≤ 65536 ⌝ }
-    ensures page { λ _. ⌜ now (out .exit) ≡ placed (now (out .entry)) at (refusalText answer) ⌝ }
-    ensures end { λ r. ⌜ r ≡ at + length (refusalText answer) ⌝ ∗ ⌜ r ≤ at + 160 ⌝ }
+pub fn put_refusal(out: &mut [u8; PAGE_BYTES], at: usize, answer: Answer) -> usize
+    requires { ⌜ at + lineBytes ≤ pageBytes ⌝ }
+    ensures page { λ _. ⌜ now (out .exit) ≡ overwrite (now (out .entry)) at (refusalText answer) ⌝ }
+    ensures end { λ r. ⌜ r ≡ at + length (refusalText answer) ⌝ ∗ ⌜ r ≤ at + lineBytes ⌝ }
 {
     let behind_0 = text::put_byte(out, at, b'0');
     let number = text::put_byte(out, behind_0, b' ');
@@ -55,10 +59,10 @@ pub fn put_refusal(out: &mut [u8; 65536], at: usize, answer: Answer) -> usize
 }
 
 // Puts a refusal at `at` where the last `n` bytes read were not whole ticks, and answers where the page ends.
-pub fn put_end(out: &mut [u8; 65536], at: usize, n: usize) -> usize
-    requires { ⌜ at + 160 ≤ 65536 ⌝ }
-    ensures page { λ _. ⌜ now (out .exit) ≡ placed (now (out .entry)) at (endText n) ⌝ }
-    ensures end { λ r. ⌜ r ≡ at + length (endText n) ⌝ ∗ ⌜ r ≤ at + 160 ⌝ }
+pub fn put_end(out: &mut [u8; PAGE_BYTES], at: usize, n: usize) -> usize
+    requires { ⌜ at + lineBytes ≤ pageBytes ⌝ }
+    ensures page { λ _. ⌜ now (out .exit) ≡ overwrite (now (out .entry)) at (endText n) ⌝ }
+    ensures end { λ r. ⌜ r ≡ at + length (endText n) ⌝ ∗ ⌜ r ≤ at + lineBytes ⌝ }
 {
     if n % trace::TICK_BYTES == 0 {
         return at;

@@ -33,7 +33,7 @@ use Rattle.wing.proofs.Mirror.{tick-mirror}
 use Rattle.wing.specs.Reflection.{TickedRel}
 use Rattle.wing.specs.Tick.{tickOf}
 use Rattle.wing.specs.declared.Report.{Report}
-use Rattle.wing.specs.declared.Ticked.{Ticked}
+use Rattle.wing.specs.declared.TickResult.{TickResult}
 use Rattle.mirror.proofs.Numbers.{OppositeFloat, SameFloat, is-opposite, is-same, opposite-holds, same-holds}
 use Rattle.mirror.specs.Compare.{both, mirroredReport, mirroredTick, sameAttitude, sameBody, sameFlight, sameSlot, sameVec}
 use Rattle.mirror.specs.Tracks.{Shown, Tracks, shownOn, shownOver, tracksAfter, tracksAtStart, tracksOn, unlikeOf}
@@ -69,9 +69,11 @@ slots-hold {xs} {ys} e = each-pass (sameSlot xs ys) 8 (λ k l. same-holds (r-is 
 
 flight-holds : {f g : Flight} → FlightRel f g → sameFlight (reflectFlight f) g ≡ true
 unfolding sameFlight reflectFlight
-flight-holds h = both-hold (body-holds (h .body)) (both-hold (both-hold (slots-hold (h .motors)) (slots-hold (h .servos))) (both-hold (slots-hold (h .scale)) (slots-hold (h .lift))))
+flight-holds h =
+    both-hold (body-holds (h .body)) (both-hold (both-hold (slots-hold (h .motors)) (slots-hold (h .servos)))
+    (both-hold (slots-hold (h .scale)) (slots-hold (h .lift))))
 
-pub agree-mirrored : (k l : Ticked) → Agree (toldBy k) (toldBy l) → mirroredTick k l ≡ true
+pub agree-mirrored : (k l : TickResult) → Agree (toldBy k) (toldBy l) → mirroredTick k l ≡ true
 unfolding mirroredTick mirroredReport
 agree-mirrored k l h =
     both-hold
@@ -98,7 +100,7 @@ pub record ComparedAttitude (p q : Quaternion) : Type 0 where
 abbrev pub ComparedSlots : List Float → List Float → Type 0
 ComparedSlots xs ys = (k : ℕ) → k < 8 → SameFloat (at xs k) (at ys k)
 
-pub record Compared (k l : Ticked) : Type 0 where
+pub record Compared (k l : TickResult) : Type 0 where
   pub answer : numberOf (l .report .answer) ≡ numberOf (k .report .answer)
   pub alpha : SameFloat (k .report .«alpha_rad») (l .report .«alpha_rad»)
   pub thrust : SameFloat (k .report .«thrust_n») (l .report .«thrust_n»)
@@ -122,13 +124,15 @@ axis-compared h = let t = hold-both _ _ h in let u = hold-both _ _ (t .0) in rec
 
 attitude-compared : {p q : Quaternion} → sameAttitude (reflectQuat p) q ≡ true → ComparedAttitude p q
 unfolding sameAttitude reflectQuat
-attitude-compared h = let t = hold-both _ _ h in let u = hold-both _ _ (t .0) in let v = hold-both _ _ (t .1) in record { w = is-same (u .0); i = is-opposite (u .1); j = is-same (v .0); k = is-opposite (v .1) }
+attitude-compared h =
+    let t = hold-both _ _ h in let u = hold-both _ _ (t .0) in let v = hold-both _ _ (t .1) in
+    record { w = is-same (u .0); i = is-opposite (u .1); j = is-same (v .0); k = is-opposite (v .1) }
 
 slots-compared : (xs ys : List Float) → allPass (sameSlot xs ys) 8 ≡ true → ComparedSlots xs ys
 unfolding sameSlot
 slots-compared xs ys h k l = is-same (pass-each (sameSlot xs ys) 8 h k l)
 
-pub mirrored-compared : (k l : Ticked) → mirroredTick k l ≡ true → Compared k l
+pub mirrored-compared : (k l : TickResult) → mirroredTick k l ≡ true → Compared k l
 unfolding mirroredTick mirroredReport sameFlight sameBody reflectFlight reflectBody
 mirrored-compared k l h =
     let t = hold-both _ _ h in

@@ -15,7 +15,7 @@ use Rattle.mixers.specs.Slots.{at}
 use Rattle.vector.specs.declared.Quaternion.{Quaternion}
 use Rattle.vector.specs.declared.Vec3.{Vec3}
 use Rattle.wing.specs.declared.Report.{Report}
-use Rattle.wing.specs.declared.Ticked.{Ticked}
+use Rattle.wing.specs.declared.TickResult.{TickResult}
 
 -- the same number: two NaNs, or equal
 unfoldable pub sameNumber : Float → Float → Bool
@@ -52,5 +52,5 @@ mirroredReport r s =
     (both (sameNumber (r .«thrust_n») (s .«thrust_n»)) (sameNumber (neg (r .«beta_rad»)) (s .«beta_rad»)))
 
 -- and the states are each other's reflection
-unfoldable pub mirroredTick : Ticked → Ticked → Bool
+unfoldable pub mirroredTick : TickResult → TickResult → Bool
 mirroredTick k l = both (mirroredReport (k .report) (l .report)) (sameFlight (reflectFlight (k .flight)) (l .flight))

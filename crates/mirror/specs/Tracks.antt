@@ -5,16 +5,16 @@ use mathlib.Core.Bool.{cond}
 use mathlib.Core.List.{List, [], _++_, foldl}
 use Rattle.airframe.specs.Reflection.{reflectAirframe}
 use Rattle.airframe.specs.declared.Airframe.{Airframe}
-use Rattle.answers.specs.Answers.{numberOf}
+use Rattle.answers.specs.Answers.{isDone}
 use Rattle.answers.specs.declared.Answer.{Answer}
 use Rattle.flight.specs.Reflection.{reflectFlight, reflectTick}
 use Rattle.flight.specs.declared.Flight.{Flight}
 use Rattle.flight.specs.declared.Tick.{Tick}
-use Rattle.lines.specs.Leg.{oneMore}
+use Rattle.lines.specs.TickLog.{oneMore}
 use Rattle.lines.specs.Text.{lineText, mirroredText}
 use Rattle.trace.specs.Trace.{ticksOf}
 use Rattle.wing.specs.Tick.{tickOf}
-use Rattle.wing.specs.declared.Ticked.{Ticked}
+use Rattle.wing.specs.declared.TickResult.{TickResult}
 use Rattle.mirror.specs.Compare.{mirroredTick}
 use Rattle.mirror.specs.declared.track.Track.{Track}
 
@@ -43,14 +43,14 @@ tracksAtStart f = record { first = f; second = reflectFlight f; ticks = 0; accep
 
 -- one more where the answer is 0
 unfoldable pub countOf : ℕ → Answer → ℕ
-countOf n x = cond (eqb (numberOf x) 0) (oneMore n) n
+countOf n x = cond (isDone x) (oneMore n) n
 
 -- the first tick that does not mirror, this one being `index`
-unfoldable pub unlikeOf : ℕ → ℕ → Ticked → Ticked → ℕ
+unfoldable pub unlikeOf : ℕ → ℕ → TickResult → TickResult → ℕ
 unlikeOf differs index x y = cond (eqb differs 0) (cond (mirroredTick x y) 0 index) differs
 
 -- after a tick that gave x, and y in the reflection
-unfoldable pub tracksAfter : Tracks → Ticked → Ticked → Tracks
+unfoldable pub tracksAfter : Tracks → TickResult → TickResult → Tracks
 tracksAfter p x y = record {
   first = x .flight;
   second = y .flight;
@@ -67,7 +67,7 @@ tracksOn a p t = tracksAfter p (tickOf a (p .first) t) (tickOf (reflectAirframe 
 -- ---- the lines
 
 -- those of a tick that gave x, and y in the reflection
-unfoldable pub pairText : ℕ → Ticked → Ticked → List ℕ
+unfoldable pub pairText : ℕ → TickResult → TickResult → List ℕ
 pairText index x y = lineText index (x .report .answer) (x .flight) ++ mirroredText index (y .report .answer) (y .flight)
 
 -- those of one tick more

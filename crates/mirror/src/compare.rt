@@ -7,7 +7,7 @@ use flight::Flight;
 use vector::Quaternion;
 use vector::Vec3;
 use wing::Report;
-use wing::Ticked;
+use wing::TickResult;
 
 fn same(x: f32, y: f32) -> bool
     ensures { λ r. ⌜ r ≡ Compare.sameNumber x y ⌝ }
@@ -71,12 +71,12 @@ fn same_flight(f: Flight, g: Flight) -> bool
     let positions_too = g.servos;
     let strengths = f.thrust_scale;
     let strengths_too = g.thrust_scale;
-    let lifting = f.lift_motors;
-    let lifting_too = g.lift_motors;
+    let lift_running = f.lift_motors;
+    let lift_running_too = g.lift_motors;
     let motors = same_slots(running, running_too);
     let servos = same_slots(positions, positions_too);
     let scales = same_slots(strengths, strengths_too);
-    let lift = same_slots(lifting, lifting_too);
+    let lift = same_slots(lift_running, lift_running_too);
     ordered::both(
         same_body(f.body(), g.body()),
         ordered::both(ordered::both(motors, servos), ordered::both(scales, lift)),
@@ -97,7 +97,7 @@ fn mirrored_report(x: Report, y: Report) -> bool
 }
 
 // Whether y is what the tick of x gives in the reflection.
-pub fn is_mirrored(x: Ticked, y: Ticked) -> bool
+pub fn is_mirrored(x: TickResult, y: TickResult) -> bool
     ensures { λ r. ⌜ r ≡ Compare.mirroredTick x y ⌝ }
 {
     let f = x.flight;

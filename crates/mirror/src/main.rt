@@ -7,31 +7,33 @@ mod verdict;
 
 ghost use Prim.Native.Nat.{_≤_};
 ghost use Rattle.lines.specs.Opening.{Ready};
+ghost use Rattle.lines.specs.Page.{pageBytes};
 use airframe::Airframe;
 use flight::Flight;
 use lines::Input;
+use lines::PAGE_BYTES;
 
 // Flies all ticks of the input from f, and their reflection, where airframe and state are accepted.
-fn fly(a: Airframe, f: Flight, input: Input, name: &[u8; 65536])
-    requires { ⌜ Ready a f ⌝ ∗ ⌜ input .named ≤ 65536 ⌝ }
+fn fly(a: Airframe, f: Flight, input: Input, name: &[u8; PAGE_BYTES])
+    requires { ⌜ Ready a f ⌝ ∗ ⌜ input .named ≤ pageBytes ⌝ }
 {
     let mut ticks = io::large_buffer();
     let mut out = io::large_buffer();
     let mut p = track::start(f);
-    let mut turns = u64::MAX;
-    while turns > 0 {
+    let mut rounds = u64::MAX;
+    while rounds > 0 {
         let got = lines::read_ticks(input.fd, &mut ticks);
         let n = got.end;
         p = track::fly_some(a, p, &ticks[..n], &mut out);
         let end = report::put_end(&mut out, p, n);
-        let well = lines::turn(b"mirror", name, input, got.failed, &out, end);
+        let well = lines::flush(b"mirror", name, input, got.failed, &out, end);
         if !well {
             return;
         }
         if n < lines::TICKS_BYTES {
             return;
         }
-        turns -= 1;
+        rounds -= 1;
     }
 }
 
@@ -43,7 +45,7 @@ fn main() {
     }
     let o = lines::open(b"mirror", &name, input);
     let answer = o.answer;
-    if answer.number() == 0 {
+    if answer.is_done() {
         fly(o.airframe, o.flight, input, &name);
     }
 }

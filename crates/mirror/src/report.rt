@@ -1,13 +1,15 @@
 // What is said at the end.
-ghost use Prim.Native.Nat.{_+_, _≤_};
+ghost use Prim.Native.Nat.{_*_, _+_, _≤_};
 ghost use lib.ListN.{length};
+ghost use Rattle.lines.specs.Page.{lineBytes, pageBytes};
 use crate::track::Track;
 use crate::verdict;
 use crate::verdict::Verdict;
+use lines::PAGE_BYTES;
 
 // Puts n and what was counted at `at`.
-fn put_count(out: &mut [u8; 65536], at: usize, n: u64, what: &[u8]) -> usize
-    requires { ⌜ at + 20 + length (now what) ≤ 65536 ⌝ }
+fn put_count(out: &mut [u8; PAGE_BYTES], at: usize, n: u64, what: &[u8]) -> usize
+    requires { ⌜ at + 20 + length (now what) ≤ pageBytes ⌝ }
     ensures { λ r. ⌜ r ≤ at + 20 + length (now (what .entry)) ⌝ }
 {
     let behind = lines::put_decimal(out, at, n);
@@ -15,8 +17,8 @@ fn put_count(out: &mut [u8; 65536], at: usize, n: u64, what: &[u8]) -> usize
 }
 
 // Puts how many ticks there were, and how many each flight accepted.
-fn put_counts(out: &mut [u8; 65536], at: usize, p: Track) -> usize
-    requires { ⌜ at + 200 ≤ 65536 ⌝ }
+fn put_counts(out: &mut [u8; PAGE_BYTES], at: usize, p: Track) -> usize
+    requires { ⌜ at + 200 ≤ pageBytes ⌝ }
     ensures { λ r. ⌜ r ≤ at + 200 ⌝ }
 {
     let accepted = put_count(out, at, p.ticks, b" ticks, ");
@@ -30,8 +32,8 @@ fn put_counts(out: &mut [u8; 65536], at: usize, p: Track) -> usize
 }
 
 // Puts the verdict in words.
-fn put_verdict(out: &mut [u8; 65536], at: usize, v: Verdict) -> usize
-    requires { ⌜ at + 200 ≤ 65536 ⌝ }
+fn put_verdict(out: &mut [u8; PAGE_BYTES], at: usize, v: Verdict) -> usize
+    requires { ⌜ at + 200 ≤ pageBytes ⌝ }
     ensures { λ r. ⌜ r ≤ at + 200 ⌝ }
 {
     match v {
@@ -58,9 +60,9 @@ fn put_verdict(out: &mut [u8; 65536], at: usize, v: Verdict) -> usize
 }
 
 // Puts the counts and the verdict; `cut` says whether the last tick is cut short.
-fn put_summary(out: &mut [u8; 65536], at: usize, p: Track, cut: bool) -> usize
-    requires { ⌜ at + 500 ≤ 65536 ⌝ }
-    ensures { λ r. ⌜ r ≤ 65536 ⌝ }
+fn put_summary(out: &mut [u8; PAGE_BYTES], at: usize, p: Track, cut: bool) -> usize
+    requires { ⌜ at + 500 ≤ pageBytes ⌝ }
+    ensures { λ r. ⌜ r ≤ pageBytes ⌝ }
 {
     let verdict = put_counts(out, at, p);
     let v = verdict::verdict_of(p.accepted, p.differs, cut);
@@ -72,9 +74,9 @@ fn put_summary(out: &mut [u8; 65536], at: usize, p: Track, cut: bool) -> usize
 }
 
 // Puts what follows the lines of the last n bytes read: where the input ends there, the refusal of a cut tick and the summary.
-pub fn put_end(out: &mut [u8; 65536], p: Track, n: usize) -> usize
-    requires { ⌜ p .at ≤ 64000 ⌝ }
-    ensures { λ r. ⌜ r ≤ 65536 ⌝ }
+pub fn put_end(out: &mut [u8; PAGE_BYTES], p: Track, n: usize) -> usize
+    requires { ⌜ p .at ≤ 200 * (2 * lineBytes) ⌝ }
+    ensures { λ r. ⌜ r ≤ pageBytes ⌝ }
 {
     let end = lines::put_end(out, p.at, n);
     if n == lines::TICKS_BYTES {

@@ -2,15 +2,17 @@
 ghost use mathlib.Core.Path.{_≡_};
 ghost use Prim.Native.Nat.{_+_, _*_, _≤_};
 ghost use lib.ListN.{length};
-ghost use Rattle.lines.specs.Text.{placed};
+ghost use Rattle.lines.specs.Text.{overwrite};
 ghost use Rattle.mirror.specs.Tracks as Tracks;
 ghost use Rattle.trace.specs.Tick.{tickBytes};
+ghost use Rattle.lines.specs.Page.{lineBytes, pageBytes};
 use crate::compare;
 use airframe::Airframe;
 use answers::Answer;
 use flight::Flight;
 use flight::Tick;
-use wing::Ticked;
+use lines::PAGE_BYTES;
+use wing::TickResult;
 
 // The two states after the ticks flown, how many they were, how many of them each flight accepted, the first that does not mirror
 // (0 for none), and where the lines on the page end.
@@ -43,14 +45,14 @@ pub fn start(f: Flight) -> Track
 fn counted(count: u64, answer: Answer) -> u64
     ensures { λ r. ⌜ r ≡ Tracks.countOf count answer ⌝ }
 {
-    if answer.number() == 0 {
+    if answer.is_done() {
         return std::num::wrapping_add_u64(count, 1);
     }
     count
 }
 
 // The first tick that does not mirror, this one being `index`.
-fn first_unlike(differs: u64, index: u64, x: Ticked, y: Ticked) -> u64
+fn first_unlike(differs: u64, index: u64, x: TickResult, y: TickResult) -> u64
     ensures { λ r. ⌜ r ≡ Tracks.unlikeOf differs index x y ⌝ }
 {
     if differs != 0 {
@@ -63,10 +65,16 @@ fn first_unlike(differs: u64, index: u64, x: Ticked, y: Ticked) -> u64
 }
 
 // Puts the lines of the tick `index` on the page.
-fn put_both(out: &mut [u8; 65536], at: usize, index: u64, x: Ticked, y: Ticked) -> usize
-    requires { ⌜ at + 320 ≤ 65536 ⌝ }
-    ensures page { λ _. ⌜ now (out .exit) ≡ placed (now (out .entry)) at (Tracks.pairText index x y) ⌝ }
-    ensures end { λ r. ⌜ r ≡ at + length (Tracks.pairText index x y) ⌝ ∗ ⌜ r ≤ at + 320 ⌝ }
+fn put_both(
+    out: &mut [u8; PAGE_BYTES],
+    at: usize,
+    index: u64,
+    x: TickResult,
+    y: TickResult,
+) -> usize
+    requires { ⌜ at + 2 * lineBytes ≤ pageBytes ⌝ }
+    ensures page { λ _. ⌜ now (out .exit) ≡ overwrite (now (out .entry)) at (Tracks.pairText index x y) ⌝ }
+    ensures end { λ r. ⌜ r ≡ at + length (Tracks.pairText index x y) ⌝ ∗ ⌜ r ≤ at + 2 * lineBytes ⌝ }
 {
     let ours = x.report;
     let theirs = y.report;
@@ -77,7 +85,7 @@ fn put_both(out: &mut [u8; 65536], at: usize, index: u64, x: Ticked, y: Ticked) 
 }
 
 // The tracks after the tick that gave x, and y in the reflection; its lines are on the page up to `at`.
-fn after(p: Track, x: Ticked, y: Ticked, at: usize) -> Track
+fn after(p: Track, x: TickResult, y: TickResult, at: usize) -> Track
     ensures { λ r. ⌜ Tracks.tracksOf r ≡ Tracks.tracksAfter (Tracks.tracksOf p) x y ⌝ ∗ ⌜ r .at ≡ at ⌝ }
 {
     let ticks = std::num::wrapping_add_u64(p.ticks, 1);
@@ -102,25 +110,25 @@ fn after(p: Track, x: Ticked, y: Ticked, at: usize) -> Track
 }
 
 // Flies one tick and its reflection.
-fn fly_one(a: Airframe, p: Track, t: Tick, out: &mut [u8; 65536]) -> Track
-    requires { ⌜ p .at + 320 ≤ 65536 ⌝ }
+fn fly_one(a: Airframe, p: Track, t: Tick, out: &mut [u8; PAGE_BYTES]) -> Track
+    requires { ⌜ p .at + 2 * lineBytes ≤ pageBytes ⌝ }
     ensures tracks { λ r. ⌜ Tracks.tracksOf r ≡ Tracks.tracksOn a (Tracks.tracksOf p) t ⌝ }
-    ensures page { λ _. ⌜ now (out .exit) ≡ placed (now (out .entry)) (p .at) (Tracks.textOn a (Tracks.tracksOf p) t) ⌝ }
-    ensures end { λ r. ⌜ r .at ≡ p .at + length (Tracks.textOn a (Tracks.tracksOf p) t) ⌝ ∗ ⌜ r .at ≤ p .at + 320 ⌝ }
+    ensures page { λ _. ⌜ now (out .exit) ≡ overwrite (now (out .entry)) (p .at) (Tracks.textOn a (Tracks.tracksOf p) t) ⌝ }
+    ensures end { λ r. ⌜ r .at ≡ p .at + length (Tracks.textOn a (Tracks.tracksOf p) t) ⌝ ∗ ⌜ r .at ≤ p .at + 2 * lineBytes ⌝ }
 {
-    let x = lent_tick::tick_lent(a, p.first, t);
-    let y = lent_tick::tick_lent(a.reflected(), p.second, t.reflected());
+    let x = lent_tick::tick_by_reference(a, p.first, t);
+    let y = lent_tick::tick_by_reference(a.reflected(), p.second, t.reflected());
     let index = std::num::wrapping_add_u64(p.ticks, 1);
     let at = put_both(out, p.at, index, x, y);
     after(p, x, y, at)
 }
 
 // Flies the trace's whole ticks, and puts their lines at the page's start.
-pub fn fly_some(a: Airframe, p: Track, trace: &[u8], out: &mut [u8; 65536]) -> Track
+pub fn fly_some(a: Airframe, p: Track, trace: &[u8], out: &mut [u8; PAGE_BYTES]) -> Track
     requires { ⌜ length (now trace) ≤ 200 * tickBytes ⌝ }
     ensures tracks { λ r. ⌜ Tracks.tracksOf r ≡ Tracks.tracksFlown a p (now (trace .entry)) ⌝ }
-    ensures page { λ _. ⌜ now (out .exit) ≡ placed (now (out .entry)) 0 (Tracks.textFlown a p (now (trace .entry))) ⌝ }
-    ensures end { λ r. ⌜ r .at ≡ length (Tracks.textFlown a p (now (trace .entry))) ⌝ ∗ ⌜ r .at ≤ 64000 ⌝ }
+    ensures page { λ _. ⌜ now (out .exit) ≡ overwrite (now (out .entry)) 0 (Tracks.textFlown a p (now (trace .entry))) ⌝ }
+    ensures end { λ r. ⌜ r .at ≡ length (Tracks.textFlown a p (now (trace .entry))) ⌝ ∗ ⌜ r .at ≤ 200 * (2 * lineBytes) ⌝ }
 {
     let count = trace::tick_count(trace);
     let mut pair = p;

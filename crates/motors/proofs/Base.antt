@@ -1,4 +1,5 @@
--- The base's motors, before 02: with scales of 1 and the exponent 2 a motor's thrust is (max · running²) · falloff, and the group's thrust and torque are the sums of such thrusts. Assumes nothing.
+-- The base's motors, before 02: with scales of 1 and the exponent 2 a motor's thrust is (max · running²) · falloff, and the group's
+-- thrust and torque are the sums of such thrusts. Assumes nothing.
 use lib.Dec.{T}
 use lib.Ieee.{Float, binary32, eq, fits}
 use lib.ListN.{replicate}
@@ -25,5 +26,9 @@ baseThrust l falloff scale running =
 abbrev pub basePull : Motors → ThrustFalloff → Float → MotorWrench
 basePull = pullBy baseThrust
 
-pub pull-as-base : (m : Motors) (falloff : ThrustFalloff) (u : Float) → m .«thrust_scale» ≡ replicate 8 one → T (fits binary32 (m .group .layout .«max_thrust_n»)) → eq (m .group .layout .«thrust_exponent») two ≡ true → wrenchWith m falloff u ≡ basePull m falloff u
-pull-as-base m falloff u e h s = pull-as-built m falloff u e h ∙ pull-same m falloff u builtThrust baseThrust (λ k l. rw (share-as-square (at (m .running) k) (m .group .layout .«thrust_exponent») s))
+pub pull-as-base : (m : Motors) (falloff : ThrustFalloff) (u : Float) → m .«thrust_scale» ≡ replicate 8 one
+    → T (fits binary32 (m .group .layout .«max_thrust_n»)) → eq (m .group .layout .«thrust_exponent») two ≡ true
+    → wrenchWith m falloff u ≡ basePull m falloff u
+pull-as-base m falloff u e h s =
+    pull-as-built m falloff u e h ∙ pull-same m falloff u builtThrust baseThrust
+    (λ k l. rw (share-as-square (at (m .running) k) (m .group .layout .«thrust_exponent») s))

@@ -14,7 +14,8 @@ use Rattle.mixers.proofs.Sums.{sum-same, vec-sum-mirror}
 use Rattle.mixers.specs.Slots.{at}
 use Rattle.vector.proofs.Mirror.{scale-mirror}
 use Rattle.vector.specs.Reflection.{VecRel}
-use Rattle.motors.specs.Motor.{lagFactor, leftBy, slotThrust, slotTorque, spinAt, spinOf, thrustFraction, thrustOf, wrenchBy, wrenchWithoutFalloff, wrenchWith}
+use Rattle.motors.specs.Motor.{lagFactor, falloffAt, slotThrust, slotTorque, spinAt, spinOf, thrustFraction, thrustOf}
+use Rattle.motors.specs.Motor.{wrenchBy, wrenchWithoutFalloff, wrenchWith}
 use Rattle.motors.specs.Reflection.{GroupRel, reflectGroup}
 use Rattle.motors.specs.declared.MotorGroup.{MotorGroup}
 use Rattle.motors.specs.declared.MotorLayout.{MotorLayout}
@@ -42,11 +43,13 @@ unfolding spinOf spinAt
 spin-mirror commands factor h = record { group = h .group; running = rw (h .group .used, h .running); scale = h .scale }
 
 -- thrust and torque, by falloffs that leave the same of each share
-slot-thrust-is : {m m' : Motors} {left left' : Float → Float} → MotorsRel m m' → ((share : Float) → left' share ≡ left share) → (k : ℕ) → slotThrust m' left' k ≡ slotThrust m left k
+slot-thrust-is : {m m' : Motors} {left left' : Float → Float} → MotorsRel m m' → ((share : Float) → left' share ≡ left share) → (k : ℕ)
+    → slotThrust m' left' k ≡ slotThrust m left k
 unfolding slotThrust thrustOf
 slot-thrust-is {m} h l k = rw (h .group .layout, h .running, h .scale, l (thrustFraction (at (m .running) k) (m .group .layout .«thrust_exponent»)))
 
-slot-torque-mirror : {m m' : Motors} {left left' : Float → Float} → MotorsRel m m' → ((share : Float) → left' share ≡ left share) → (k : ℕ) → VecRel true (slotTorque m left k) (slotTorque m' left' k)
+slot-torque-mirror : {m m' : Motors} {left left' : Float → Float} → MotorsRel m m' → ((share : Float) → left' share ≡ left share) → (k : ℕ)
+    → VecRel true (slotTorque m left k) (slotTorque m' left' k)
 unfolding slotTorque
 slot-torque-mirror h l k = scale-mirror (h .group .torque k) (r-is (slot-thrust-is h l k))
 
@@ -55,13 +58,16 @@ pub record PullRel (p p' : MotorWrench) : Type 0 where
   pub thrust : p' .«thrust_n» ≡ p .«thrust_n»
   pub torque : VecRel true (p .«torque_nm») (p' .«torque_nm»)
 
-by-mirror : {m m' : Motors} {left left' : Float → Float} → MotorsRel m m' → ((share : Float) → left' share ≡ left share) → PullRel (wrenchBy m left) (wrenchBy m' left')
+by-mirror : {m m' : Motors} {left left' : Float → Float} → MotorsRel m m' → ((share : Float) → left' share ≡ left share)
+    → PullRel (wrenchBy m left) (wrenchBy m' left')
 unfolding wrenchBy
 by-mirror h l = record { thrust = sum-same 8 (slot-thrust-is h l); torque = vec-sum-mirror true 8 (slot-torque-mirror h l) }
 
 pub pull-mirror : {m m' : Motors} {u u' : Float} (f : ThrustFalloff) → MotorsRel m m' → Rel false u u' → PullRel (wrenchWith m f u) (wrenchWith m' f u')
 unfolding wrenchWith
-pull-mirror {m} {u'} f h r = by-mirror h (λ share. ap (λ (l : MotorLayout). leftBy f l u' share) (h .group .layout) ∙ falloff-is f (m .group .layout .«max_thrust_n») share r)
+pull-mirror {m} {u'} f h r =
+    by-mirror h (λ share. ap (λ (l : MotorLayout). falloffAt f l u' share) (h .group .layout)
+    ∙ falloff-is f (m .group .layout .«max_thrust_n») share r)
 
 -- where nothing falls off
 pub full-pull-mirror : {m m' : Motors} → MotorsRel m m' → PullRel (wrenchWithoutFalloff m) (wrenchWithoutFalloff m')

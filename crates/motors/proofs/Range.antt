@@ -1,4 +1,5 @@
--- Where the motors' running values lie after spinning, by the lag's rounding bound: a used motor's stays in 0..1, and an unused motor does not move. Assumes nothing.
+-- Where the motors' running values lie after spinning, by the lag's rounding bound: a used motor's stays in 0..1, and an unused
+-- motor does not move. Assumes nothing.
 use Prim.Native.Nat.{_<_, ℕ}
 use lib.Dec.{T}
 use lib.Ieee.{Float, binary32, fits, nan}
@@ -6,7 +7,7 @@ use mathlib.Core.Bool.{Bool, cond, false, true}
 use mathlib.Core.List.{List, []}
 use mathlib.Core.Path.{_∙_, _≡_, refl, subst, sym}
 use Rattle.float.specs.Interval.{Within}
-use Rattle.float.specs.Notation.{nought, one}
+use Rattle.float.specs.Notation.{zero, one}
 use Rattle.lag.proofs.Range.{approach-fits, motor-in}
 use Rattle.lag.specs.Lag.{approachOf, approachSaturated, saturated}
 use Rattle.mixers.proofs.Slots.{slots-at}
@@ -16,40 +17,43 @@ use Rattle.motors.specs.Running.{MotorsInRange}
 use Rattle.motors.specs.declared.Motors.{Motors}
 
 -- a slot that is marked as used
-pub spin-in : (m : Motors) (commands : List Float) (factor : Float) (k : ℕ) → T (fits binary32 (at (m .running) k)) → Within nought one (at (m .running) k) → Within nought one factor → Within nought one (spinAt m commands factor k)
+pub spin-in : (m : Motors) (commands : List Float) (factor : Float) (k : ℕ) → T (fits binary32 (at (m .running) k))
+    → Within zero one (at (m .running) k) → Within zero one factor → Within zero one (spinAt m commands factor k)
 unfolding spinAt spun
 spin-in m commands factor k g w f = go (flagAt (m .group .used) k)
   where
-    go : (u : Bool) → Within nought one (cond u (approachSaturated (at (m .running) k) (at commands k) nought one nought factor) (at (m .running) k))
+    go : (u : Bool) → Within zero one (cond u (approachSaturated (at (m .running) k) (at commands k) zero one zero factor) (at (m .running) k))
     go true = motor-in (at (m .running) k) (at commands k) factor g w f
     go false = w
 
 -- a slot that is not
-pub spin-still : (m : Motors) (commands : List Float) (factor : Float) (k : ℕ) → flagAt (m .group .used) k ≡ false → spinAt m commands factor k ≡ at (m .running) k
+pub spin-still : (m : Motors) (commands : List Float) (factor : Float) (k : ℕ) → flagAt (m .group .used) k ≡ false
+    → spinAt m commands factor k ≡ at (m .running) k
 unfolding spinAt spun
 spin-still m commands factor k e = rw e
 
 -- what it runs at is a value of the format again
-pub spin-fits : (m : Motors) (commands : List Float) (factor : Float) (k : ℕ) → T (fits binary32 (at (m .running) k)) → T (fits binary32 (spinAt m commands factor k))
+pub spin-fits : (m : Motors) (commands : List Float) (factor : Float) (k : ℕ) → T (fits binary32 (at (m .running) k))
+    → T (fits binary32 (spinAt m commands factor k))
 unfolding spinAt spun approachSaturated
 spin-fits m commands factor k g = go (flagAt (m .group .used) k)
   where
-    go : (u : Bool) → T (fits binary32 (cond u (approachOf (at (m .running) k) (saturated nought one nought (at commands k)) factor) (at (m .running) k)))
-    go true = approach-fits (at (m .running) k) (saturated nought one nought (at commands k)) factor
+    go : (u : Bool) → T (fits binary32 (cond u (approachOf (at (m .running) k) (saturated zero one zero (at commands k)) factor) (at (m .running) k)))
+    go true = approach-fits (at (m .running) k) (saturated zero one zero (at commands k)) factor
     go false = g
 
 -- ---- a whole group
 
 -- the running values of all its motors, used or not, since the envelope tests them all
 pub record Running (running : List Float) : Type 0 where
-  pub motor : (k : ℕ) → k < 8 → Within nought one (at running k)
+  pub motor : (k : ℕ) → k < 8 → Within zero one (at running k)
 
 -- the motors that the marks leave out have the running values of `start`
-pub record Still (used : List Bool) (start running : List Float) : Type 0 where
+pub record UnusedUnchanged (used : List Bool) (start running : List Float) : Type 0 where
   pub motor : (k : ℕ) → k < 8 → flagAt used k ≡ false → at running k ≡ at start k
 
 -- what the values' type tells: each is a value of the 32-bit format
-pub record Held (running : List Float) : Type 0 where
+pub record Representable (running : List Float) : Type 0 where
   pub motor : (k : ℕ) → k < 8 → T (fits binary32 (at running k))
 
 module _ (m : Motors) (commands : List Float) (factor : Float) where
@@ -57,24 +61,24 @@ module _ (m : Motors) (commands : List Float) (factor : Float) where
   unfolding spinOf
   slot k l = slots-at nan (spinAt m commands factor) [] k l
 
-  pub spin-running : Held (m .running) → Running (m .running) → Within nought one factor → Running (spinOf m commands factor .running)
+  pub spin-running : Representable (m .running) → Running (m .running) → Within zero one factor → Running (spinOf m commands factor .running)
   spin-running g r f = record {
-    motor = λ k l. subst (λ (x : Float). Within nought one x) (sym (slot k l)) (spin-in m commands factor k (g .motor k l) (r .motor k l) f);
+    motor = λ k l. subst (λ (x : Float). Within zero one x) (sym (slot k l)) (spin-in m commands factor k (g .motor k l) (r .motor k l) f);
   }
 
-  pub spin-leaves : Still (m .group .used) (m .running) (spinOf m commands factor .running)
+  pub spin-leaves : UnusedUnchanged (m .group .used) (m .running) (spinOf m commands factor .running)
   spin-leaves = record { motor = λ k l u. slot k l ∙ spin-still m commands factor k u }
 
-  pub spin-held : Held (m .running) → Held (spinOf m commands factor .running)
-  spin-held g = record {
+  pub spin-representable : Representable (m .running) → Representable (spinOf m commands factor .running)
+  spin-representable g = record {
     motor = λ k l. subst (λ (x : Float). T (fits binary32 x)) (sym (slot k l)) (spin-fits m commands factor k (g .motor k l));
   }
 
-pub still-same : (used : List Bool) (xs : List Float) → Still used xs xs
-still-same used xs = record { motor = λ k l u. refl }
+pub unused-unchanged-same : (used : List Bool) (xs : List Float) → UnusedUnchanged used xs xs
+unused-unchanged-same used xs = record { motor = λ k l u. refl }
 
-pub still-after : {used : List Bool} {xs ys zs : List Float} → Still used xs ys → Still used ys zs → Still used xs zs
-still-after h k = record { motor = λ j l u. k .motor j l u ∙ h .motor j l u }
+pub unused-unchanged-after : {used : List Bool} {xs ys zs : List Float} → UnusedUnchanged used xs ys → UnusedUnchanged used ys zs → UnusedUnchanged used xs zs
+unused-unchanged-after h k = record { motor = λ j l u. k .motor j l u ∙ h .motor j l u }
 
-pub in-range : {used : List Bool} {start running : List Float} → Running running → Still used start running → MotorsInRange used start running
+pub in-range : {used : List Bool} {start running : List Float} → Running running → UnusedUnchanged used start running → MotorsInRange used start running
 in-range r s = record { driven = λ k l u. r .motor k l; unused = s .motor }

@@ -7,7 +7,7 @@ use mathlib.Core.Bool.{Bool, cond, false, true}
 use mathlib.Core.List.{List}
 use Rattle.fixed_wing.specs.Falloff.{falloffShare}
 use Rattle.fixed_wing.specs.declared.ThrustFalloff.{ThrustFalloff}
-use Rattle.float.specs.Notation.{_⊗_, nought, one, two}
+use Rattle.float.specs.Notation.{_⊗_, zero, one, two}
 use Rattle.lag.specs.Lag.{approachSaturated, factorOf}
 use Rattle.libm.specs.Pow.{powOf}
 use Rattle.mixers.specs.Rows.{liveOf, putTo}
@@ -26,8 +26,8 @@ use Rattle.motors.specs.declared.Motors.{Motors}
 -- ---- a group from the mixer's rows
 
 -- no row yet: no motor is driven
-unfoldable pub undriven : MotorLayout → Float → MotorGroup
-undriven l tau = record {
+unfoldable pub emptyGroup : MotorLayout → Float → MotorGroup
+emptyGroup l tau = record {
   layout = l;
   «time_constant_s» = tau;
   used = replicate 8 false;
@@ -68,10 +68,10 @@ putLiftRow g row = putLiftAt g (row .slot) (torqueOf (g .layout) row)
 
 -- of several rows for one slot the last counts, within its own group only
 unfoldable pub groupOf : Rows → MotorLayout → Float → MotorGroup
-groupOf rows l tau = putTo putMotorRow (undriven l tau) (rows .rows) (liveOf rows)
+groupOf rows l tau = putTo putMotorRow (emptyGroup l tau) (rows .rows) (liveOf rows)
 
 unfoldable pub liftGroupOf : Rows → MotorLayout → Float → MotorGroup
-liftGroupOf rows l tau = putTo putLiftRow (undriven l tau) (rows .rows) (liveOf rows)
+liftGroupOf rows l tau = putTo putLiftRow (emptyGroup l tau) (rows .rows) (liveOf rows)
 
 -- ---- f of module 2
 unfoldable pub lagFactor : MotorGroup → Float → Float
@@ -79,7 +79,7 @@ lagFactor g h = factorOf h (g .«time_constant_s»)
 
 -- ---- spinning: only used motors do; a NaN command goes to neutral 0
 unfoldable pub spun : Bool → Float → Float → Float → Float
-spun u running command factor = cond u (approachSaturated running command nought one nought factor) running
+spun u running command factor = cond u (approachSaturated running command zero one zero factor) running
 
 unfoldable pub spinAt : Motors → List Float → Float → ℕ → Float
 spinAt m commands factor k = spun (flagAt (m .group .used) k) (at (m .running) k) (at commands k) factor
@@ -116,15 +116,15 @@ wrenchBy m falloff = record {
 }
 
 -- what the forward airspeed u leaves of a share (01, module 4)
-abbrev pub leftBy : ThrustFalloff → MotorLayout → Float → Float → Float
-leftBy falloff l u share = falloffShare falloff (l .«max_thrust_n») share u
+abbrev pub falloffAt : ThrustFalloff → MotorLayout → Float → Float → Float
+falloffAt falloff l u share = falloffShare falloff (l .«max_thrust_n») share u
 
 unfoldable pub wrenchWith : Motors → ThrustFalloff → Float → MotorWrench
-wrenchWith m falloff u = wrenchBy m (leftBy falloff (m .group .layout) u)
+wrenchWith m falloff u = wrenchBy m (falloffAt falloff (m .group .layout) u)
 
 -- falloff shares of 1 (02, 5)
-abbrev pub whole : Float → Float
-whole share = one
+abbrev pub noFalloff : Float → Float
+noFalloff share = one
 
 unfoldable pub wrenchWithoutFalloff : Motors → MotorWrench
-wrenchWithoutFalloff m = wrenchBy m whole
+wrenchWithoutFalloff m = wrenchBy m noFalloff

@@ -6,9 +6,9 @@ use mathlib.Core.Bool.{Bool, false, true}
 use mathlib.Core.List.{List}
 use mathlib.Core.Path.{_≡_}
 use Rattle.float.specs.Interval.{Within}
-use Rattle.float.specs.Notation.{nought, one}
+use Rattle.float.specs.Notation.{zero, one}
 use Rattle.mixers.specs.Slots.{at, flagAt}
 
 pub record MotorsInRange (used : List Bool) (start running : List Float) : Type 0 where
-  pub driven : (k : ℕ) → k < 8 → flagAt used k ≡ true → Within nought one (at running k)
+  pub driven : (k : ℕ) → k < 8 → flagAt used k ≡ true → Within zero one (at running k)
   pub unused : (k : ℕ) → k < 8 → flagAt used k ≡ false → at running k ≡ at start k

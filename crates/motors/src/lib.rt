@@ -54,7 +54,7 @@ impl MotorGroup {
     {
         let list = rows.rows;
         let count = rows.live();
-        let mut group = MotorGroup::undriven(layout, time_constant_s);
+        let mut group = MotorGroup::empty(layout, time_constant_s);
         let mut i = 0usize;
         while i < count {
             group = group.put(list[i]);
@@ -64,8 +64,8 @@ impl MotorGroup {
     }
 
     // Before the first row: no slot is used.
-    pub fn undriven(layout: MotorLayout, time_constant_s: f32) -> Self
-        ensures { λ r. ⌜ r ≡ Motor.undriven layout «time_constant_s» ⌝ }
+    pub fn empty(layout: MotorLayout, time_constant_s: f32) -> Self
+        ensures { λ r. ⌜ r ≡ Motor.emptyGroup layout «time_constant_s» ⌝ }
     {
         let used = [false; 8];
         let torque_per_thrust_m = [Vec3::zeros(); 8];
@@ -230,7 +230,7 @@ impl MotorLayout {
         powers: &[f32; POWER_COUNT],
     ) -> f32
         requires { ⌜ now powers ≡ powersOfTwo ⌝ }
-        ensures { λ r. ⌜ r ≡ Motor.thrustOf self (Motor.leftBy falloff self «airspeed_mps») scale running ⌝ }
+        ensures { λ r. ⌜ r ≡ Motor.thrustOf self (Motor.falloffAt falloff self «airspeed_mps») scale running ⌝ }
     {
         let max_thrust_n = self.max_thrust_n;
         let share = thrust_fraction(running, self.thrust_exponent, powers);
@@ -240,7 +240,7 @@ impl MotorLayout {
     // The same with a falloff share of 1.
     fn still_thrust_n(self, scale: f32, running: f32, powers: &[f32; POWER_COUNT]) -> f32
         requires { ⌜ now powers ≡ powersOfTwo ⌝ }
-        ensures { λ r. ⌜ r ≡ Motor.thrustOf self Motor.whole scale running ⌝ }
+        ensures { λ r. ⌜ r ≡ Motor.thrustOf self Motor.noFalloff scale running ⌝ }
     {
         let max_thrust_n = self.max_thrust_n;
         let share = thrust_fraction(running, self.thrust_exponent, powers);

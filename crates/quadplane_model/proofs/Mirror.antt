@@ -19,16 +19,19 @@ pub reflect-rotors : (l : LiftRotors) → RotorsRel l (reflectRotors l)
 unfolding reflectRotors
 reflect-rotors l = record { motors = reflect-group (l .motors); drag = refl }
 
-pub rotors-mirror : {l l' : LiftRotors} {running running' : List Float} → RotorsRel l l' → running' ≡ running → MotorsRel (rotorsAt l running) (rotorsAt l' running')
+pub rotors-mirror : {l l' : LiftRotors} {running running' : List Float} → RotorsRel l l' → running' ≡ running
+    → MotorsRel (rotorsAt l running) (rotorsAt l' running')
 unfolding rotorsAt
 rotors-mirror h e = record { group = h .motors; running = e; scale = refl }
 
-force-mirror : {c c' thrust thrust' : Float} {air air' : Vec3} → c' ≡ c → thrust' ≡ thrust → VecRel false air air' → VecRel false (liftForce c thrust air) (liftForce c' thrust' air')
+force-mirror : {c c' thrust thrust' : Float} {air air' : Vec3} → c' ≡ c → thrust' ≡ thrust → VecRel false air air'
+    → VecRel false (liftForce c thrust air) (liftForce c' thrust' air')
 unfolding liftForce
 force-mirror e t h =
     sub-mirror (vec-mirror (r-zero false false false (pos 0)) (r-zero true false false (pos 0)) (r-is (ap neg t)))
     (scale-mirror (vec-mirror (h .x) (h .y) (r-zero false false false (pos 0))) (r-is (ap₂ _⊗_ e t)))
 
-pub lift-mirror : {l l' : LiftRotors} {running running' : List Float} {air air' : Vec3} → RotorsRel l l' → running' ≡ running → VecRel false air air' → WrenchRel (liftWrench l running air) (liftWrench l' running' air')
+pub lift-mirror : {l l' : LiftRotors} {running running' : List Float} {air air' : Vec3} → RotorsRel l l' → running' ≡ running → VecRel false air air'
+    → WrenchRel (liftWrench l running air) (liftWrench l' running' air')
 unfolding liftWrench liftBy
 lift-mirror h e air = let pull = full-pull-mirror (rotors-mirror h e) in record { force = force-mirror (h .drag) (pull .thrust) air; torque = pull .torque }

@@ -5,7 +5,7 @@ use lib.ListN.{replicate}
 use mathlib.Core.List.{List}
 use mathlib.Core.Path.{_≡_}
 use Rattle.body.specs.declared.Wrench.{Wrench}
-use Rattle.float.specs.Notation.{_⊗_, nought, one}
+use Rattle.float.specs.Notation.{_⊗_, zero, one}
 use Rattle.motors.specs.Motor.{spinOf, wrenchWithoutFalloff}
 use Rattle.motors.specs.Reflection.{GroupRel, reflectGroup}
 use Rattle.motors.specs.declared.MotorWrench.{MotorWrench}
@@ -24,7 +24,7 @@ rotorsSpun l running commands factor = spinOf (rotorsAt l running) commands fact
 
 -- (0, 0, -T) less c · T times the air's forward and side parts
 unfoldable pub liftForce : Float → Float → Vec3 → Vec3
-liftForce c thrust air = subOf (vec nought nought (neg thrust)) (scaleOf (vec (air .x) (air .y) nought) (c ⊗ thrust))
+liftForce c thrust air = subOf (vec zero zero (neg thrust)) (scaleOf (vec (air .x) (air .y) zero) (c ⊗ thrust))
 
 -- by what the rotors pull
 unfoldable pub liftBy : Float → MotorWrench → Vec3 → Wrench

@@ -200,7 +200,7 @@ fn layout(w: &[u32; 192], i: usize) -> MotorLayout
 fn lift_group(rows: Rows, layout: MotorLayout) -> MotorGroup {
     let list = rows.rows;
     let count = rows.live();
-    let mut group = MotorGroup::undriven(layout, 1.0);
+    let mut group = MotorGroup::empty(layout, 1.0);
     let mut i = 0usize;
     while i < count {
         group = group.put_lift(list[i]);

@@ -4,6 +4,7 @@ ghost use Prim.Native.Nat.{_+_, _≤_};
 ghost use lib.Ieee as Ieee;
 ghost use lib.Ieee.{binary32};
 ghost use Rattle.float.specs.Same.{num};
+ghost use Rattle.lines.specs.Page.{pageBytes};
 use crate::line_words;
 use crate::lists;
 use crate::lists::List;
@@ -57,7 +58,7 @@ fn is_right(w: &[u32; 192], inputs: usize, count: usize, out: &[u32; 64], n: usi
 
 // Replays the line s, and counts it.
 fn replay(list: List, s: &[u8], t: Tally) -> Tally
-    requires { do ⌜ (← ⟦s.len()⟧) ≤ 65536 ⌝ }
+    requires { do ⌜ (← ⟦s.len()⟧) ≤ pageBytes ⌝ }
 {
     let mut w = [0u32; 192];
     let mut out = [0u32; 64];
@@ -79,7 +80,7 @@ fn replay(list: List, s: &[u8], t: Tally) -> Tally
 
 // Replays the line from `at` to `to` of buf, unless it is a comment.
 pub fn take(list: List, buf: &[u8], at: usize, to: usize, t: Tally) -> Tally
-    requires { do ⌜ at ≤ to ⌝ ∗ ⌜ to ≤ (← ⟦buf.len()⟧) ⌝ ∗ ⌜ to ≤ 65536 ⌝ }
+    requires { do ⌜ at ≤ to ⌝ ∗ ⌜ to ≤ (← ⟦buf.len()⟧) ⌝ ∗ ⌜ to ≤ pageBytes ⌝ }
 {
     if at < to {
         if buf[at] == b'#' {

@@ -1,10 +1,12 @@
 // The list of whole flights: after `< ` the input of fly in hex, then the lines that fly prints for it, each after `> `.
 ghost use Prim.Native.Nat.{_+_, _≤_, _<_};
 ghost use lib.ListN.{length};
+ghost use Rattle.lines.specs.Page.{pageBytes};
 use crate::cases::Tally;
 use crate::words;
 use airframe::Airframe;
 use airframe_block::AirframeRead;
+use lines::PAGE_BYTES;
 use state_block::StateRead;
 
 // What fly prints for the flight at hand stands in the first `end` bytes of a page; those before `at` were found in the list, and
@@ -27,8 +29,8 @@ fn least(a: usize, b: usize) -> usize
 
 // Puts the bytes that the hex digits from `from` to `to` of the line spell at the start of `bytes`, as far as there is room, and
 // answers how many they are.
-fn decode(line: &[u8; 65536], from: usize, to: usize, bytes: &mut [u8; 4096]) -> usize
-    requires { ⌜ from ≤ to ⌝ ∗ ⌜ to ≤ 65536 ⌝ }
+fn decode(line: &[u8; PAGE_BYTES], from: usize, to: usize, bytes: &mut [u8; 4096]) -> usize
+    requires { ⌜ from ≤ to ⌝ ∗ ⌜ to ≤ pageBytes ⌝ }
     ensures { λ r. ⌜ r ≤ 4096 ⌝ }
 {
     let n = least((to - from) / 2, 4096);
@@ -53,9 +55,15 @@ fn state_in(bytes: &[u8], from: usize, end: usize) -> StateRead
 }
 
 // What fly prints for the first n bytes, of which the airframe is the first `to`.
-fn after_airframe(a: Airframe, bytes: &[u8], to: usize, n: usize, out: &mut [u8; 65536]) -> usize
+fn after_airframe(
+    a: Airframe,
+    bytes: &[u8],
+    to: usize,
+    n: usize,
+    out: &mut [u8; PAGE_BYTES],
+) -> usize
     requires { ⌜ to ≤ n ⌝ ∗ ⌜ n ≤ 4096 ⌝ ∗ ⌜ n ≤ length (now bytes) ⌝ }
-    ensures { λ r. ⌜ r ≤ 65536 ⌝ }
+    ensures { λ r. ⌜ r ≤ pageBytes ⌝ }
 {
     let from = least(to + state_block::STATE_BYTES, n);
     if from < to {
@@ -63,7 +71,7 @@ fn after_airframe(a: Airframe, bytes: &[u8], to: usize, n: usize, out: &mut [u8;
     }
     let s = state_in(bytes, to, from);
     let answer = s.answer;
-    if answer.number() != 0 {
+    if !answer.is_done() {
         return lines::put_refusal(out, 0, answer);
     }
     let p = lines::fly_ticks(a, lines::start(s.flight), &bytes[from..n], out);
@@ -71,24 +79,24 @@ fn after_airframe(a: Airframe, bytes: &[u8], to: usize, n: usize, out: &mut [u8;
 }
 
 // What fly prints for the first n bytes.
-fn printed(bytes: &[u8; 4096], n: usize, out: &mut [u8; 65536]) -> usize
+fn printed(bytes: &[u8; 4096], n: usize, out: &mut [u8; PAGE_BYTES]) -> usize
     requires { ⌜ n ≤ 4096 ⌝ }
-    ensures { λ r. ⌜ r ≤ 65536 ⌝ }
+    ensures { λ r. ⌜ r ≤ pageBytes ⌝ }
 {
     let to = least(lines::airframe_wanted(bytes[0], bytes[1]), n);
     let read = airframe_in(bytes, to);
     let answer = read.answer;
-    if answer.number() != 0 {
+    if !answer.is_done() {
         return lines::put_refusal(out, 0, answer);
     }
     after_airframe(read.airframe, bytes, to, n, out)
 }
 
 // Whether the line's bytes from `from` to `to` and a newline stand at `at` of the page.
-fn found(line: &[u8; 65536], from: usize, to: usize, out: &[u8; 65536], at: usize) -> bool
-    requires { ⌜ from ≤ to ⌝ ∗ ⌜ to ≤ 65536 ⌝ ∗ ⌜ at ≤ 65536 ⌝ }
+fn found(line: &[u8; PAGE_BYTES], from: usize, to: usize, out: &[u8; PAGE_BYTES], at: usize) -> bool
+    requires { ⌜ from ≤ to ⌝ ∗ ⌜ to ≤ pageBytes ⌝ ∗ ⌜ at ≤ pageBytes ⌝ }
 {
-    if 65536 - at <= to - from {
+    if PAGE_BYTES - at <= to - from {
         return false;
     }
     let mut i = 0usize;
@@ -126,7 +134,7 @@ pub struct Walk {
 }
 
 pub fn begin() -> Walk
-    ensures { λ r. ⌜ r .page .at ≤ 65536 ⌝ }
+    ensures { λ r. ⌜ r .page .at ≤ pageBytes ⌝ }
 {
     let tally = Tally {
         cases: 0,
@@ -157,14 +165,14 @@ pub fn tally(w: Walk) -> Tally {
 // An input's line: the flight before it is counted, and this one's lines are put on the page.
 fn input(
     w: Walk,
-    line: &[u8; 65536],
+    line: &[u8; PAGE_BYTES],
     from: usize,
     to: usize,
     bytes: &mut [u8; 4096],
-    out: &mut [u8; 65536],
+    out: &mut [u8; PAGE_BYTES],
 ) -> Walk
-    requires { ⌜ from ≤ to ⌝ ∗ ⌜ to ≤ 65536 ⌝ }
-    ensures { λ r. ⌜ r .page .at ≤ 65536 ⌝ }
+    requires { ⌜ from ≤ to ⌝ ∗ ⌜ to ≤ pageBytes ⌝ }
+    ensures { λ r. ⌜ r .page .at ≤ pageBytes ⌝ }
 {
     let n = decode(line, from, to, bytes);
     let end = printed(bytes, n, out);
@@ -182,15 +190,15 @@ fn input(
 }
 
 // A printed line: it has to be the page's next.
-fn output(w: Walk, line: &[u8; 65536], from: usize, to: usize, out: &[u8; 65536]) -> Walk
-    requires { ⌜ from ≤ to ⌝ ∗ ⌜ to ≤ 65536 ⌝ ∗ ⌜ w .page .at ≤ 65536 ⌝ }
-    ensures { λ r. ⌜ r .page .at ≤ 65536 ⌝ }
+fn output(w: Walk, line: &[u8; PAGE_BYTES], from: usize, to: usize, out: &[u8; PAGE_BYTES]) -> Walk
+    requires { ⌜ from ≤ to ⌝ ∗ ⌜ to ≤ pageBytes ⌝ ∗ ⌜ w .page .at ≤ pageBytes ⌝ }
+    ensures { λ r. ⌜ r .page .at ≤ pageBytes ⌝ }
 {
     let p = w.page;
     let at = p.at;
     let tally = w.tally;
     let same = found(line, from, to, out, at);
-    let next = least(at + (to - from) + 1, 65536);
+    let next = least(at + (to - from) + 1, PAGE_BYTES);
     let page = Page {
         at: next,
         end: p.end,
@@ -210,14 +218,14 @@ fn both(a: bool, b: bool) -> bool {
 // One line of the list, from `at` to `to` of the buffer.
 pub fn take(
     w: Walk,
-    line: &[u8; 65536],
+    line: &[u8; PAGE_BYTES],
     at: usize,
     to: usize,
     bytes: &mut [u8; 4096],
-    out: &mut [u8; 65536],
+    out: &mut [u8; PAGE_BYTES],
 ) -> Walk
-    requires { ⌜ at ≤ to ⌝ ∗ ⌜ to ≤ 65536 ⌝ ∗ ⌜ w .page .at ≤ 65536 ⌝ }
-    ensures { λ r. ⌜ r .page .at ≤ 65536 ⌝ }
+    requires { ⌜ at ≤ to ⌝ ∗ ⌜ to ≤ pageBytes ⌝ ∗ ⌜ w .page .at ≤ pageBytes ⌝ }
+    ensures { λ r. ⌜ r .page .at ≤ pageBytes ⌝ }
 {
     if to < at + 2 {
         return w;

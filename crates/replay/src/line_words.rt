@@ -1,6 +1,7 @@
 // A line of a list: input words, ` > `, answer words.
 ghost use mathlib.Core.Path.{_≡_};
 ghost use Prim.Native.Nat.{_<_, _≤_};
+ghost use Rattle.lines.specs.Page.{pageBytes};
 use crate::words;
 
 // What is read of a line up to `at`: `count` words in all, of which `inputs` stand before the mark.
@@ -31,7 +32,7 @@ fn is_gap(s: &[u8], i: usize) -> bool {
 
 // On over the mark at l.at, the only one of its line.
 fn past_mark(s: &[u8], l: Line) -> Line
-    requires { do ⌜ l .at < (← ⟦s.len()⟧) ⌝ ∗ ⌜ (← ⟦s.len()⟧) ≤ 65536 ⌝ ∗ ⌜ l .count ≤ 192 ⌝ }
+    requires { do ⌜ l .at < (← ⟦s.len()⟧) ⌝ ∗ ⌜ (← ⟦s.len()⟧) ≤ pageBytes ⌝ ∗ ⌜ l .count ≤ 192 ⌝ }
     ensures { λ r. ⌜ l .at < r .at ⌝ ∗ ⌜ r .inputs ≤ r .count ⌝ ∗ ⌜ r .count ≤ 192 ⌝ }
 {
     if l.inputs > 0 {
@@ -46,7 +47,7 @@ fn past_mark(s: &[u8], l: Line) -> Line
 
 // On over the word at l.at, which goes into w.
 fn past_word(s: &[u8], l: Line, w: &mut [u32; 192]) -> Line
-    requires { do ⌜ l .at < (← ⟦s.len()⟧) ⌝ ∗ ⌜ (← ⟦s.len()⟧) ≤ 65536 ⌝ }
+    requires { do ⌜ l .at < (← ⟦s.len()⟧) ⌝ ∗ ⌜ (← ⟦s.len()⟧) ≤ pageBytes ⌝ }
     requires { ⌜ l .inputs ≤ l .count ⌝ ∗ ⌜ l .count ≤ 192 ⌝ }
     ensures { λ r. ⌜ l .at < r .at ⌝ ∗ ⌜ r .inputs ≤ r .count ⌝ ∗ ⌜ r .count ≤ 192 ⌝ }
 {
@@ -73,7 +74,7 @@ fn past_word(s: &[u8], l: Line, w: &mut [u32; 192]) -> Line
 }
 
 fn step(s: &[u8], l: Line, w: &mut [u32; 192]) -> Line
-    requires { do ⌜ l .at < (← ⟦s.len()⟧) ⌝ ∗ ⌜ (← ⟦s.len()⟧) ≤ 65536 ⌝ }
+    requires { do ⌜ l .at < (← ⟦s.len()⟧) ⌝ ∗ ⌜ (← ⟦s.len()⟧) ≤ pageBytes ⌝ }
     requires { ⌜ l .inputs ≤ l .count ⌝ ∗ ⌜ l .count ≤ 192 ⌝ }
     ensures { λ r. ⌜ l .at < r .at ⌝ ∗ ⌜ r .inputs ≤ r .count ⌝ ∗ ⌜ r .count ≤ 192 ⌝ }
 {
@@ -86,7 +87,7 @@ fn step(s: &[u8], l: Line, w: &mut [u32; 192]) -> Line
 
 // The words of the line s, in order, at the start of w.
 pub fn read(s: &[u8], w: &mut [u32; 192]) -> Line
-    requires { do ⌜ (← ⟦s.len()⟧) ≤ 65536 ⌝ }
+    requires { do ⌜ (← ⟦s.len()⟧) ≤ pageBytes ⌝ }
     ensures { λ r. ⌜ r .inputs ≤ r .count ⌝ ∗ ⌜ r .count ≤ 192 ⌝ }
 {
     let mut l = Line {

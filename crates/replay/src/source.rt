@@ -1,6 +1,8 @@
 // A file read line by line through a buffer of fixed size.
 ghost use mathlib.Core.Path.{_≡_};
 ghost use Prim.Native.Nat.{_+_, _≤_};
+ghost use Rattle.lines.specs.Page.{pageBytes};
+use lines::PAGE_BYTES;
 
 // The bytes from `at` to `end` of the buffer are read and not yet taken.
 pub struct Source {
@@ -10,8 +12,8 @@ pub struct Source {
 }
 
 // Where the line at `at` ends: at its newline, or at `end` where none follows.
-pub fn line_end(buf: &[u8; 65536], at: usize, end: usize) -> usize
-    requires { ⌜ at ≤ end ⌝ ∗ ⌜ end ≤ 65536 ⌝ }
+pub fn line_end(buf: &[u8; PAGE_BYTES], at: usize, end: usize) -> usize
+    requires { ⌜ at ≤ end ⌝ ∗ ⌜ end ≤ pageBytes ⌝ }
     ensures { λ r. ⌜ at ≤ r ⌝ ∗ ⌜ r ≤ end ⌝ }
 {
     let mut i = at;
@@ -25,8 +27,8 @@ pub fn line_end(buf: &[u8; 65536], at: usize, end: usize) -> usize
 }
 
 // Moves the bytes from `at` to `end` to the buffer's start.
-fn to_front(buf: &mut [u8; 65536], at: usize, end: usize)
-    requires { ⌜ at ≤ end ⌝ ∗ ⌜ end ≤ 65536 ⌝ }
+fn to_front(buf: &mut [u8; PAGE_BYTES], at: usize, end: usize)
+    requires { ⌜ at ≤ end ⌝ ∗ ⌜ end ≤ pageBytes ⌝ }
 {
     let mut i = at;
     while i < end {
@@ -43,9 +45,9 @@ fn read_behind(fd: i32, buf: &mut [u8], n: usize) -> usize
     io::read_full(fd, &mut buf[n..])
 }
 
-fn refill(buf: &mut [u8; 65536], s: Source) -> Source
-    requires { ⌜ s .at ≤ s .end ⌝ ∗ ⌜ s .end ≤ 65536 ⌝ }
-    ensures { λ r. ⌜ r .at ≤ r .end ⌝ ∗ ⌜ r .end ≤ 65536 ⌝ }
+fn refill(buf: &mut [u8; PAGE_BYTES], s: Source) -> Source
+    requires { ⌜ s .at ≤ s .end ⌝ ∗ ⌜ s .end ≤ pageBytes ⌝ }
+    ensures { λ r. ⌜ r .at ≤ r .end ⌝ ∗ ⌜ r .end ≤ pageBytes ⌝ }
 {
     to_front(buf, s.at, s.end);
     let n = s.end - s.at;
@@ -59,9 +61,9 @@ fn refill(buf: &mut [u8; 65536], s: Source) -> Source
 
 // Sees to it that the whole next line is in the buffer, as far as it fits. Nothing from `at` to
 // `end`: the file has ended.
-pub fn with_line(buf: &mut [u8; 65536], s: Source) -> Source
-    requires { ⌜ s .at ≤ s .end ⌝ ∗ ⌜ s .end ≤ 65536 ⌝ }
-    ensures { λ r. ⌜ r .at ≤ r .end ⌝ ∗ ⌜ r .end ≤ 65536 ⌝ }
+pub fn with_line(buf: &mut [u8; PAGE_BYTES], s: Source) -> Source
+    requires { ⌜ s .at ≤ s .end ⌝ ∗ ⌜ s .end ≤ pageBytes ⌝ }
+    ensures { λ r. ⌜ r .at ≤ r .end ⌝ ∗ ⌜ r .end ≤ pageBytes ⌝ }
 {
     if line_end(buf, s.at, s.end) < s.end {
         return s;

@@ -8,7 +8,7 @@ use Rattle.airframe.specs.declared.Airframe.{Airframe}
 use Rattle.flight.specs.declared.Flight.{Flight}
 use Rattle.flight.specs.declared.Tick.{Tick}
 use Rattle.wing.specs.Tick.{tickOf}
-use Rattle.wing.specs.declared.Ticked.{Ticked}
+use Rattle.wing.specs.declared.TickResult.{TickResult}
 use Rattle.run.specs.Calls.{Chain, LentCall, ValueCall, chain-more, chain-none}
 use Rattle.run.specs.Mirrored.{All, ByDefinition, all-more, all-none}
 use Rattle.run.specs.Run.{Progress, Told, acceptedIn, callsOf, oneIfDone, progressed, runFrom, runOf, toldBy}
@@ -56,26 +56,29 @@ module _ {X U O : Type 0} (a : Airframe) (state : X → Flight) (tick : U → Ti
   }
 
 -- ---- calls by value and over a lent record
-value-call : (a : Airframe) (f : Flight) (t : Tick) (k : Ticked) (g : Flight) → ValueCall a f t k g → OneCall a (λ (x : Flight). x) (λ (x : Tick). x) toldBy f t k g
-value-call a f t k g c = record { told = ap toldBy (c .answered); left = c .left ∙ ap (λ (x : Ticked). x .flight) (c .answered) }
+value-call : (a : Airframe) (f : Flight) (t : Tick) (k : TickResult) (g : Flight) → ValueCall a f t k g
+    → OneCall a (λ (x : Flight). x) (λ (x : Tick). x) toldBy f t k g
+value-call a f t k g c = record { told = ap toldBy (c .answered); left = c .left ∙ ap (λ (x : TickResult). x .flight) (c .answered) }
 
-pub value-flown : (a : Airframe) {f g : Flight} {ts : List Tick} {ks : List Ticked} → Chain (ValueCall a) f ts ks g → ByDefinition a f ts (map toldBy ks) g
+pub value-flown : (a : Airframe) {f g : Flight} {ts : List Tick} {ks : List TickResult} → Chain (ValueCall a) f ts ks g → ByDefinition a f ts (map toldBy ks) g
 value-flown a {f} {g} {ts} {ks} r =
     subst (λ (us : List Tick). ByDefinition a f us (map toldBy ks) g) (map-id ts)
     (chain-flown a (λ (x : Flight). x) (λ (x : Tick). x) toldBy (ValueCall a) (value-call a) r)
 
-by-value : (a : Airframe) {f g : Flight} {t : Tick} {k : Ticked} → LentCall a f t k g → ValueCall a f t k g
+by-value : (a : Airframe) {f g : Flight} {t : Tick} {k : TickResult} → LentCall a f t k g → ValueCall a f t k g
 by-value a h = record { answered = λ i. record { report = h .reported i; flight = (h .found ∙ h .left) i }; left = sym (h .found) }
 
-all-by-value : (a : Airframe) {f g : Flight} {ts : List Tick} {ks : List Ticked} → Chain (LentCall a) f ts ks g → Chain (ValueCall a) f ts ks g
+all-by-value : (a : Airframe) {f g : Flight} {ts : List Tick} {ks : List TickResult} → Chain (LentCall a) f ts ks g → Chain (ValueCall a) f ts ks g
 all-by-value a chain-none = chain-none
 all-by-value a (chain-more k r) = chain-more (by-value a k) (all-by-value a r)
 
-pub lent-flown : (a : Airframe) {f g : Flight} {ts : List Tick} {ks : List Ticked} → Chain (LentCall a) f ts ks g → ByDefinition a f ts (map toldBy ks) g
+pub lent-flown : (a : Airframe) {f g : Flight} {ts : List Tick} {ks : List TickResult} → Chain (LentCall a) f ts ks g → ByDefinition a f ts (map toldBy ks) g
 lent-flown a r = value-flown a (all-by-value a r)
 
 -- ---- what holds of every call: what each tick tells from what the states before it keep
-pub all-calls : (Kept : Flight → Type 0) (P : Told → Type 0) (a : Airframe) → ((f : Flight) (t : Tick) → Kept f → Kept (tickOf a f t .flight) × P (toldBy (tickOf a f t))) → (f : Flight) (ts : List Tick) → Kept f → All P (callsOf a f ts)
+pub all-calls : (Kept : Flight → Type 0) (P : Told → Type 0) (a : Airframe)
+    → ((f : Flight) (t : Tick) → Kept f → Kept (tickOf a f t .flight) × P (toldBy (tickOf a f t))) → (f : Flight) (ts : List Tick) → Kept f
+    → All P (callsOf a f ts)
 unfolding callsOf
 all-calls Kept P a one f [] k = all-none
 all-calls Kept P a one f (t ∷ ts) k = let n = one f t k in all-more (n .1) (all-calls Kept P a one (tickOf a f t .flight) ts (n .0))

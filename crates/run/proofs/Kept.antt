@@ -1,4 +1,6 @@
--- What no tick alters no run alters, accepted or not: every call hands back that of the start, and so do calls by value one after another and the run called once. Said of the thrust scales (02, 2) and, without lift numbers, of the lift rotors' values (02, 5). Assumes nothing.
+-- What no tick alters no run alters, accepted or not: every call hands back that of the start, and so do calls by value one after
+-- another and the run called once. Said of the thrust scales (02, 2) and, without lift numbers, of the lift rotors' values (02, 5).
+-- Assumes nothing.
 use Prim.Native.Nat.{ℕ}
 use lib.Ieee.{Float}
 use mathlib.Core.Bool.{Bool, cond, false, true}
@@ -12,11 +14,11 @@ use Rattle.trace.specs.Trace.{isWhole, ticksOf}
 use Rattle.wing.proofs.Lift.{lift-stays}
 use Rattle.wing.proofs.Scales.{scale-stays}
 use Rattle.wing.specs.Tick.{tickOf}
-use Rattle.wing.specs.declared.Ticked.{Ticked}
+use Rattle.wing.specs.declared.TickResult.{TickResult}
 use Rattle.run.proofs.Calls.{all-calls, lent-flown, value-flown}
 use Rattle.run.specs.Calls.{Chain, LentCall, ValueCall}
 use Rattle.run.specs.Mirrored.{All}
-use Rattle.run.specs.Run.{Progress, Told, callsOf, ended, progressed, ranOf, ranOver, runFrom, runOf}
+use Rattle.run.specs.Run.{Progress, Told, callsOf, ended, progressed, runResultOf, runResultOver, runFrom, runOf}
 
 -- a part of the state that no tick alters
 abbrev pub Stays : Airframe → (Flight → List Float) → Type 0
@@ -39,14 +41,14 @@ module _ (a : Airframe) (part : Flight → List Float) (stays : Stays a part) wh
   run-keeps f ts = run-from (record { flight = f; accepted = 0 }) ts
 
   -- calls by value and over a lent record, and the run over a trace's bytes, whole ticks or not
-  pub value-keeps : {f h : Flight} {ts : List Tick} {ks : List Ticked} → Chain (ValueCall a) f ts ks h → Kept f h
+  pub value-keeps : {f h : Flight} {ts : List Tick} {ks : List TickResult} → Chain (ValueCall a) f ts ks h → Kept f h
   value-keeps {f} {h} {ts} {ks} r = ap part (value-flown a r .end) ∙ run-keeps f ts
 
-  pub lent-keeps : {f h : Flight} {ts : List Tick} {ks : List Ticked} → Chain (LentCall a) f ts ks h → Kept f h
+  pub lent-keeps : {f h : Flight} {ts : List Tick} {ks : List TickResult} → Chain (LentCall a) f ts ks h → Kept f h
   lent-keeps {f} {h} {ts} {ks} r = ap part (lent-flown a r .end) ∙ run-keeps f ts
 
-  pub ran-keeps : (f : Flight) (s : List ℕ) → Kept f (ranOf a f s .flight)
-  unfolding ranOf ranOver ended
+  pub ran-keeps : (f : Flight) (s : List ℕ) → Kept f (runResultOf a f s .flight)
+  unfolding runResultOf runResultOver ended
   ran-keeps f s = go (isWhole s)
     where
       go : (w : Bool) → Kept f (cond w (ended Done (runOf a f (ticksOf s) .flight) (runOf a f (ticksOf s) .accepted)) (ended WrongLength f 0) .flight)

@@ -1,5 +1,5 @@
 -- Laws of runs.
-pub mod Turns
+pub mod Loop
 pub mod Calls
 pub mod Mirror
 pub mod Kept

@@ -6,7 +6,7 @@ use Rattle.airframe.specs.declared.Airframe.{Airframe}
 use Rattle.flight.specs.declared.Flight.{Flight}
 use Rattle.flight.specs.declared.Tick.{Tick}
 use Rattle.wing.specs.Tick.{tickOf}
-use Rattle.wing.specs.declared.Ticked.{Ticked}
+use Rattle.wing.specs.declared.TickResult.{TickResult}
 
 -- two lists of one length, related element by element
 pub data Each {X Y : Type 0} (R : X → Y → Type 0) : List X → List Y → Type 0 where
@@ -21,12 +21,12 @@ pub data Chain {X U O : Type 0} (Call : X → U → O → X → Type 0) : X → 
       → Call x u o y → Chain Call y us os z → Chain Call x (u ∷ us) (o ∷ os) z
 
 -- the call by value, `wing::tick`: its answer is the report and the state it hands back, which the caller gives to the next
-pub record ValueCall (a : Airframe) (f : Flight) (t : Tick) (k : Ticked) (g : Flight) : Type 0 where
+pub record ValueCall (a : Airframe) (f : Flight) (t : Tick) (k : TickResult) (g : Flight) : Type 0 where
   pub answered : k ≡ tickOf a f t
   pub left : g ≡ k .flight
 
 -- the call over a lent record, `lent_tick::tick_in_place`: its report, and what the record holds afterwards, which the next call finds
-pub record LentCall (a : Airframe) (f : Flight) (t : Tick) (k : Ticked) (g : Flight) : Type 0 where
+pub record LentCall (a : Airframe) (f : Flight) (t : Tick) (k : TickResult) (g : Flight) : Type 0 where
   pub reported : k .report ≡ tickOf a f t .report
   pub left : g ≡ tickOf a f t .flight
   pub found : k .flight ≡ g

@@ -4,7 +4,7 @@
 -- and T' are A, S and T with left and right exchanged by sign bits: the torques of motors and lift rotors and the weights in roll
 -- and yaw, position, velocity and wind in east, the attitude in i and k, the rates in p and r. One flight goes over T with A from S,
 -- the other over T' with A' from S'; a tick starts from what the tick before it handed back. `callsOf` is what each call tells,
--- `runOf` a run's last state and count, `ranOf` the run that gets all bytes of a trace at once: all by demand 2's definition
+-- `runOf` a run's last state and count, `runResultOf` the run that gets all bytes of a trace at once: all by demand 2's definition
 -- (Run.antt). `Same` and `Opposite` compare numbers as results are, 0 and -0 as one. The claim is `Demand3`; what stands before it
 -- are its words. Definitions only.
 use Prim.Native.Nat.{_<_, ℕ}
@@ -21,18 +21,18 @@ use Rattle.flight.specs.Reflection.{FlightRel, TickRel, reflectFlight, reflectT
 use Rattle.flight.specs.declared.Flight.{Flight}
 use Rattle.flight.specs.declared.Tick.{Tick}
 use Rattle.float.specs.Interval.{Within}
-use Rattle.float.specs.Notation.{minusOne, nought, one}
+use Rattle.float.specs.Notation.{minusOne, zero, one}
 use Rattle.float.specs.Same.{Opposite, Same}
 use Rattle.mixers.specs.Slots.{at}
 use Rattle.motors.specs.Running.{MotorsInRange}
 use Rattle.trace.specs.Reflection.{reflectTrace}
 use Rattle.trace.specs.Trace.{ticksOf}
 use Rattle.wing.specs.Tick.{densityFor}
-use Rattle.wing.specs.declared.Ticked.{Ticked}
+use Rattle.wing.specs.declared.TickResult.{TickResult}
 use Rattle.run.specs.Calls.{Chain, Each, LentCall, ValueCall}
-use Rattle.run.specs.Run.{Told, acceptedIn, callsOf, ranOf, runOf, toldBy}
+use Rattle.run.specs.Run.{Told, acceptedIn, callsOf, runResultOf, runOf, toldBy}
 use Rattle.run.specs.declared.Pair.{Pair}
-use Rattle.run.specs.declared.Ran.{Ran}
+use Rattle.run.specs.declared.RunResult.{RunResult}
 
 -- each element of a list
 pub data All {X : Type 0} (P : X → Type 0) : List X → Type 0 where
@@ -63,7 +63,7 @@ pub record Agree (k k' : Told) : Type 0 where
 pub record InRange (a : Airframe) (start f : Flight) : Type 0 where
   pub motors : MotorsInRange (a .motors .used) (start .motors) (f .motors)
   pub surface : (k : ℕ) → k < 8 → Within minusOne one (at (f .servos) k)
-  pub scale : (k : ℕ) → k < 8 → Within nought one (at (f .«thrust_scale») k)
+  pub scale : (k : ℕ) → k < 8 → Within zero one (at (f .«thrust_scale») k)
   pub unaltered : f .«thrust_scale» ≡ start .«thrust_scale»
   pub lift : MotorsInRange (a .lift .motors .used) (start .«lift_motors») (f .«lift_motors»)
   pub unlifted : a .«lift_present» ≡ false → f .«lift_motors» ≡ start .«lift_motors»
@@ -113,9 +113,9 @@ FlightsMirror a s =
 
 -- what is claimed of a form of the tick call: of any two chains of such calls that were made, each call fed the state that the last
 -- one left
-abbrev pub CallsMirror : (Airframe → Flight → Tick → Ticked → Flight → Type 0) → Airframe → Flight → Type 0
+abbrev pub CallsMirror : (Airframe → Flight → Tick → TickResult → Flight → Type 0) → Airframe → Flight → Type 0
 CallsMirror Call a s =
-    AcceptedAirframe a → AcceptedState s → (ts : List Tick) (ks ks' : List Ticked) (g g' : Flight)
+    AcceptedAirframe a → AcceptedState s → (ts : List Tick) (ks ks' : List TickResult) (g g' : Flight)
     → Chain (Call a) s ts ks g → Chain (Call (reflectAirframe a)) (reflectFlight s) (map reflectTick ts) ks' g'
     → Mirrored a s ts (map toldBy ks) (map toldBy ks') g g'
 
@@ -132,7 +132,7 @@ pub record Demand3 (a : Airframe) (s : Flight) : Type 0 where
       (runOf a s ts .flight) (runOf (reflectAirframe a) (reflectFlight s) (map reflectTick ts) .flight)
 
 -- what two runs called once hand back: the same answer, states that are each other's reflections, equal counts
-pub record RanRel (r r' : Ran) : Type 0 where
+pub record RunRel (r r' : RunResult) : Type 0 where
   pub answer : r' .answer ≡ r .answer
   pub state : FlightRel (r .flight) (r' .flight)
   pub count : r' .accepted ≡ r .accepted
@@ -141,8 +141,8 @@ pub record RanRel (r r' : Ran) : Type 0 where
 -- each wind east's sign bit flipped, which are the bytes of T'; what they hand back mirrors; and demand 3 of A and S, over the
 -- trace's ticks and over every other list.
 pub record Flown (a : Airframe) (s : Flight) (trace : List ℕ) (r : Pair) : Type 0 where
-  pub first : r .first ≡ ranOf a s trace
-  pub second : r .second ≡ ranOf (reflectAirframe a) (reflectFlight s) (reflectTrace trace)
+  pub first : r .first ≡ runResultOf a s trace
+  pub second : r .second ≡ runResultOf (reflectAirframe a) (reflectFlight s) (reflectTrace trace)
   pub ticks : ticksOf (reflectTrace trace) ≡ map reflectTick (ticksOf trace)
-  pub ends : RanRel (r .first) (r .second)
+  pub ends : RunRel (r .first) (r .second)
   pub demand3 : Demand3 a s

@@ -6,15 +6,15 @@ use lib.Ieee.{Float}
 use mathlib.Core.Bool.{cond}
 use mathlib.Core.List.{List, [], _∷_, foldl}
 use Rattle.airframe.specs.declared.Airframe.{Airframe}
-use Rattle.answers.specs.Answers.{numberOf, placeOf}
+use Rattle.answers.specs.Answers.{isDone, numberOf, placeOf}
 use Rattle.answers.specs.declared.Answer.{Answer}
 use Rattle.answers.specs.declared.Answer.the-variants.{Done, WrongLength}
 use Rattle.flight.specs.declared.Flight.{Flight}
 use Rattle.flight.specs.declared.Tick.{Tick}
 use Rattle.trace.specs.Trace.{isWhole, ticksOf}
 use Rattle.wing.specs.Tick.{tickOf}
-use Rattle.wing.specs.declared.Ticked.{Ticked}
-use Rattle.run.specs.declared.Ran.{Ran}
+use Rattle.wing.specs.declared.TickResult.{TickResult}
+use Rattle.run.specs.declared.RunResult.{RunResult}
 
 -- ---- over a list of ticks
 pub record Progress : Type 0 where
@@ -23,7 +23,7 @@ pub record Progress : Type 0 where
 
 -- a tick is accepted if it answers 0
 unfoldable pub oneIfDone : Answer → ℕ
-oneIfDone x = cond (eqb (numberOf x) 0) 1 0
+oneIfDone x = cond (isDone x) 1 0
 
 -- a refusal keeps state and count; else the next state takes the place of the state, and the count goes up by 1
 unfoldable pub progressed : Airframe → Progress → Tick → Progress
@@ -51,7 +51,7 @@ pub record Told : Type 0 where
   pub thrust : Float
   pub state : Flight
 
-abbrev pub toldBy : Ticked → Told
+abbrev pub toldBy : TickResult → Told
 toldBy k = record {
   answer = numberOf (k .report .answer);
   place = placeOf (k .report .answer);
@@ -74,13 +74,13 @@ acceptedIn (k ∷ ks) = cond (eqb (k .answer) 0) 1 0 + acceptedIn ks
 -- ---- over a trace's bytes
 
 -- what a run hands back
-unfoldable pub ended : Answer → Flight → ℕ → Ran
+unfoldable pub ended : Answer → Flight → ℕ → RunResult
 ended x f n = record { answer = x; flight = f; accepted = n }
 
 -- a trace that is not whole ticks: 1, the given state and 0; else 0, with the run's last state and count
-unfoldable pub ranOver : Airframe → Flight → List ℕ → List Tick → Ran
-ranOver a f s ts =
+unfoldable pub runResultOver : Airframe → Flight → List ℕ → List Tick → RunResult
+runResultOver a f s ts =
     cond (isWhole s) (ended Done (runOf a f ts .flight) (runOf a f ts .accepted)) (ended WrongLength f 0)
 
-unfoldable pub ranOf : Airframe → Flight → List ℕ → Ran
-ranOf a f s = ranOver a f s (ticksOf s)
+unfoldable pub runResultOf : Airframe → Flight → List ℕ → RunResult
+runResultOf a f s = runResultOver a f s (ticksOf s)

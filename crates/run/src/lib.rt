@@ -14,7 +14,7 @@ use flight::Flight;
 use flight::Tick;
 
 // A run's answer, 0 or 1, its end state and how many of its ticks were accepted.
-pub struct Ran {
+pub struct RunResult {
     pub answer: Answer,
     pub flight: Flight,
     pub accepted: u64,
@@ -22,13 +22,13 @@ pub struct Ran {
 
 // A run and its reflection.
 pub struct Pair {
-    pub first: Ran,
-    pub second: Ran,
+    pub first: RunResult,
+    pub second: RunResult,
 }
 
 // Flies the whole trace from `f`; a refused tick does not end the run. A trace that is not whole ticks gets 1, and `f` back.
-pub fn run(a: Airframe, f: Flight, trace: &[u8]) -> Ran
-    ensures { λ r. ⌜ r ≡ Run.ranOf a f (now (trace .entry)) ⌝ }
+pub fn run(a: Airframe, f: Flight, trace: &[u8]) -> RunResult
+    ensures { λ r. ⌜ r ≡ Run.runResultOf a f (now (trace .entry)) ⌝ }
 {
     run_track(a, f, trace, false)
 }
@@ -43,8 +43,8 @@ pub fn mirrored_pair(a: Airframe, f: Flight, trace: &[u8]) -> Pair
 }
 
 // The run over the trace's track, or over the reflected track.
-fn run_track(a: Airframe, f: Flight, trace: &[u8], reflect: bool) -> Ran
-    ensures { λ r. ⌜ r ≡ Contracts.trackRan reflect a f (now (trace .entry)) ⌝ }
+fn run_track(a: Airframe, f: Flight, trace: &[u8], reflect: bool) -> RunResult
+    ensures { λ r. ⌜ r ≡ Contracts.trackResult reflect a f (now (trace .entry)) ⌝ }
 {
     if trace::is_whole(trace) {
         if a.refused_place() == 0 {
@@ -58,10 +58,10 @@ fn run_track(a: Airframe, f: Flight, trace: &[u8], reflect: bool) -> Ran
     ended(Answer::WrongLength, f, 0)
 }
 
-fn ended(answer: Answer, flight: Flight, accepted: u64) -> Ran
+fn ended(answer: Answer, flight: Flight, accepted: u64) -> RunResult
     ensures { λ r. ⌜ r ≡ Run.ended answer flight accepted ⌝ }
 {
-    Ran {
+    RunResult {
         answer,
         flight,
         accepted,
@@ -70,7 +70,7 @@ fn ended(answer: Answer, flight: Flight, accepted: u64) -> Ran
 
 // The ticks one after the other, of an airframe and a state that are accepted: neither is tested again, since each state that is
 // kept was tested as the next one.
-fn fly_all(a: Airframe, f: Flight, trace: &[u8], reflect: bool) -> Ran
+fn fly_all(a: Airframe, f: Flight, trace: &[u8], reflect: bool) -> RunResult
     requires { ⌜ refusedPlace a ≡ 0 ⌝ ∗ ⌜ isInside f ≡ true ⌝ }
     ensures { λ r. ⌜ r ≡ Contracts.trackFlown reflect a f (now (trace .entry)) ⌝ }
 {
@@ -83,7 +83,7 @@ fn fly_all(a: Airframe, f: Flight, trace: &[u8], reflect: bool) -> Ran
     let mut i = 0usize;
     while i < count {
         let t = tick_at(trace, i, reflect);
-        lags = wing::begin_after(a, lags, t.step_s, &powers);
+        lags = wing::cached_lag_factors(a, lags, t.step_s, &powers);
         let done = wing::tick_inside(a, flight, t, lags, &powers, &densities);
         let report = done.report;
         let answer = report.answer;
@@ -109,5 +109,5 @@ fn tick_at(trace: &[u8], i: usize, reflect: bool) -> Tick
 fn one_if_done(answer: Answer) -> u64
     ensures { λ r. ⌜ r ≡ Run.oneIfDone answer ⌝ ∗ ⌜ r ≤ 1 ⌝ }
 {
-    if answer.number() == 0 { 1 } else { 0 }
+    if answer.is_done() { 1 } else { 0 }
 }

@@ -13,7 +13,8 @@ use Rattle.float.proofs.Tests.{either}
 use Rattle.flight.specs.Envelope.{outsideOf}
 use Rattle.flight.specs.declared.Flight.{Flight}
 use Rattle.block_parts.specs.Parts.{floatsFrom}
-use Rattle.state_block.specs.Layout.{acceptedState, flightFrom, flightWith, liftAt, readFullOf, readStateOf, refusedState, scalesAt, stateBytes, testedState, unlifted, unscaled}
+use Rattle.state_block.specs.Layout.{acceptedState, flightFrom, flightWith, liftAt, readFullOf, readStateOf, refusedState}
+use Rattle.state_block.specs.Layout.{scalesAt, stateBytes, testedState, unlifted, unscaled}
 use Rattle.state_block.specs.declared.StateRead.{StateRead}
 
 abbrev Within : StateRead → Type 0

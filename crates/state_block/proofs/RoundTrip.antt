@@ -16,7 +16,8 @@ use Rattle.flight.specs.Envelope.{outsideOf}
 use Rattle.flight.specs.State.{bodyOf}
 use Rattle.flight.specs.declared.Flight.{Flight}
 use Rattle.vector.specs.declared.Quaternion.{Quaternion}
-use Rattle.state_block.specs.Layout.{acceptedState, attitudeFrom, flightFrom, flightWith, putAttitude, putBody, putFlight, readStateOf, testedState, writtenState}
+use Rattle.state_block.specs.Layout.{acceptedState, attitudeFrom, flightFrom, flightWith, putAttitude, putBody, putFlight}
+use Rattle.state_block.specs.Layout.{readStateOf, testedState, writtenState}
 
 -- ---- the attitude
 
@@ -26,7 +27,9 @@ length-putAttitude s i q = simp length-putFloat
 
 attitude-before : (s : List ℕ) (i : ℕ) (q : Quaternion) (j : ℕ) → j + 4 ≤ i → floatAt (putAttitude s i q) j ≡ floatAt s j
 unfolding putAttitude
-attitude-before s i q j l = float-before _ (i + 12) (q .k) j (omega arith) ∙ float-before _ (i + 8) (q .j) j (omega arith) ∙ float-before _ (i + 4) (q .i) j (omega arith) ∙ float-before s i (q .w) j l
+attitude-before s i q j l =
+    float-before _ (i + 12) (q .k) j (omega arith) ∙ float-before _ (i + 8) (q .j) j (omega arith) ∙ float-before _ (i + 4) (q .i) j (omega arith)
+    ∙ float-before s i (q .w) j l
 
 -- four numbers that 32 bits hold
 pub record AttitudeFits (q : Quaternion) : Type 0 where

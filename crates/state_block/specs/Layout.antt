@@ -13,12 +13,12 @@ use Rattle.body.specs.declared.Body.{Body}
 use Rattle.flight.specs.Envelope.{outsideOf, zeroFlight}
 use Rattle.flight.specs.State.{bodyOf, flightOf}
 use Rattle.flight.specs.declared.Flight.{Flight}
-use Rattle.float.specs.Notation.{nought, one}
+use Rattle.float.specs.Notation.{zero, one}
 use Rattle.vector.specs.Rotation.{quat}
 use Rattle.vector.specs.declared.Quaternion.{Quaternion}
 use Rattle.state_block.specs.declared.StateRead.{StateRead}
 
--- ---- the table of places: at which byte of its block each part begins; the position begins it
+-- ---- the table of offsets: at which byte of its block each part begins; the position begins it
 
 -- an attitude has 4 numbers
 abbrev pub attitudeBytes : ℕ
@@ -77,7 +77,7 @@ unscaled = replicate 8 one
 
 -- and the lift rotors' values: all 0
 abbrev pub unlifted : List Float
-unlifted = replicate 8 nought
+unlifted = replicate 8 zero
 
 -- ---- reading a state block (01, "What the bench replies": "State: 1, 7", "A refused read returns .. state of zeros")
 

@@ -17,10 +17,12 @@ pub record SurfacesRel (s s' : Surfaces) : Type 0 where
   pub weight : (k : ℕ) → VecRel true (vecAt (s .weights) k) (vecAt (s' .weights) k)
   pub running : s' .running ≡ s .running
 
-pub move-mirror : {s s' : Surfaces} (commands : List Float) (factor : Float) → SurfacesRel s s' → SurfacesRel (moveTo s commands factor) (moveTo s' commands factor)
+pub move-mirror : {s s' : Surfaces} (commands : List Float) (factor : Float) → SurfacesRel s s'
+    → SurfacesRel (moveTo s commands factor) (moveTo s' commands factor)
 unfolding moveTo moveAt
 move-mirror commands factor h = record { weight = h .weight; running = rw (h .running) }
 
 pub deflection-mirror : {s s' : Surfaces} (most : Vec3) → SurfacesRel s s' → VecRel true (deflectionRad s most) (deflectionRad s' most)
 unfolding deflectionRad deflectionAt
-deflection-mirror most h = component-mul-mirror most (vec-sum-mirror true 8 (λ k. scale-mirror (h .weight k) (r-is (ap (λ (xs : List Float). at xs k) (h .running)))))
+deflection-mirror most h =
+    component-mul-mirror most (vec-sum-mirror true 8 (λ k. scale-mirror (h .weight k) (r-is (ap (λ (xs : List Float). at xs k) (h .running)))))

@@ -5,7 +5,7 @@ use lib.Ieee.{Float, lt}
 use lib.ListN.{replicate, set}
 use mathlib.Core.Bool.{cond}
 use mathlib.Core.List.{List}
-use Rattle.float.specs.Notation.{_⊘_, minusOne, nought, one}
+use Rattle.float.specs.Notation.{_⊘_, minusOne, zero, one}
 use Rattle.lag.specs.Lag.{approachSaturated}
 use Rattle.mixers.specs.Rows.{liveOf, putTo, rowFactors}
 use Rattle.mixers.specs.Slots.{at, slots, vecAt, vecSumTo}
@@ -44,7 +44,7 @@ unfoldable pub squaresOf : List Vec3 → Vec3
 squaresOf fs = vecSumTo (squareAt fs) 8
 
 unfoldable pub inverseOrZero : Float → Float
-inverseOrZero s = cond (lt nought s) (one ⊘ s) nought
+inverseOrZero s = cond (lt zero s) (one ⊘ s) zero
 
 unfoldable pub inverseOf : Vec3 → Vec3
 inverseOf s = vec (inverseOrZero (s .x)) (inverseOrZero (s .y)) (inverseOrZero (s .z))
@@ -56,11 +56,11 @@ unfoldable pub weighed : List Vec3 → List Vec3
 weighed fs = slots (weightAt fs)
 
 unfoldable pub surfacesOf : Rows → Surfaces
-surfacesOf rows = record { weights = weighed (factorsOf rows); running = replicate 8 nought }
+surfacesOf rows = record { weights = weighed (factorsOf rows); running = replicate 8 zero }
 
 -- ---- moving: a NaN command goes to neutral 0
 unfoldable pub moveAt : Surfaces → List Float → Float → ℕ → Float
-moveAt s commands factor k = approachSaturated (at (s .running) k) (at commands k) minusOne one nought factor
+moveAt s commands factor k = approachSaturated (at (s .running) k) (at commands k) minusOne one zero factor
 
 unfoldable pub moveTo : Surfaces → List Float → Float → Surfaces
 moveTo s commands factor = record { weights = s .weights; running = slots (moveAt s commands factor) }

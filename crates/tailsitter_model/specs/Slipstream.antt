@@ -1,7 +1,7 @@
 -- The wash (01, module 5), all zeros where there is none. The density is an argument. Definitions only.
 use lib.Ieee.{Float, binary32, lt, neg}
 use mathlib.Core.Bool.{cond}
-use Rattle.float.specs.Notation.{_⊖_, _⊗_, _⊘_, atLeastZero, nought, two}
+use Rattle.float.specs.Notation.{_⊖_, _⊗_, _⊘_, atLeastZero, zero, two}
 use Rattle.libm.specs.Sqrt.{sqrtOf}
 use Rattle.tailsitter_model.specs.declared.PropWash.{PropWash}
 use Rattle.tailsitter_model.specs.declared.Wash.{Wash}
@@ -12,7 +12,7 @@ discPa w thrust = thrust ⊘ w .«disc_area_m2»
 
 unfoldable pub addedPa : PropWash → Float → Float → Float → Float
 addedPa w thrust axial density =
-    cond (lt axial nought)
+    cond (lt axial zero)
     (discPa w thrust ⊖ w .«sink_loss» ⊗ density ⊗ sqrtOf binary32 (two ⊗ discPa w thrust ⊘ density) ⊗ neg axial)
     (discPa w thrust)
 
@@ -34,9 +34,9 @@ washOf w thrust axial density = washByPressure w (addedPa w thrust axial density
 
 abbrev pub noWash : Wash
 noWash = record {
-  «pressure_pa» = nought;
-  «roll_pressure_pa» = nought;
-  «pitch_moment_pa» = nought;
-  «stall_pitch_moment_pa» = nought;
-  «damping_mps» = nought;
+  «pressure_pa» = zero;
+  «roll_pressure_pa» = zero;
+  «pitch_moment_pa» = zero;
+  «stall_pitch_moment_pa» = zero;
+  «damping_mps» = zero;
 }

@@ -19,7 +19,7 @@ module _ {X : Type 0} (on : X → Tick → X) (x : X) (s : List ℕ) where
   abbrev pub after : ℕ → X
   after n = foldl on x (ticksFrom s 0 n)
 
-  -- a turn of the loop: tick i on what comes by the first i is what comes by the first i + 1
+  -- an iteration of the loop: tick i on what comes by the first i is what comes by the first i + 1
   pub after-more : (i : ℕ) → on (after i) (tickAt s i) ≡ after (i + 1)
   after-more i =
       sym (foldl-append on x (ticksFrom s 0 i) (tickAt s i ∷ []))

@@ -8,11 +8,11 @@ use mathlib.Core.List.{List}
 use Rattle.answers.specs.declared.Answer.the-variants.{Done, WrongLength}
 use Rattle.block_parts.specs.Parts.{floatAt, floatsFrom, numberBytes, putFloat, putFloats, putVec, slotsBytes, vecBytes, vecFrom}
 use Rattle.flight.specs.declared.Tick.{Tick}
-use Rattle.float.specs.Notation.{nought}
+use Rattle.float.specs.Notation.{zero}
 use Rattle.vector.specs.Vector.{zeroVec}
 use Rattle.trace.specs.declared.TickRead.{TickRead}
 
--- ---- the table of places
+-- ---- the table of offsets
 
 -- where the parts stand, the step being the first
 abbrev pub windAt : ℕ
@@ -40,7 +40,7 @@ tickFrom s i = record {
 
 -- a tick of zeros
 unfoldable pub zeroTick : Tick
-zeroTick = record { «step_s» = nought; «wind_ned_mps» = zeroVec; motors = replicate 8 nought; servos = replicate 8 nought }
+zeroTick = record { «step_s» = zero; «wind_ned_mps» = zeroVec; motors = replicate 8 zero; servos = replicate 8 zero }
 
 -- a tick block by itself: 80 bytes, else 1 and a tick of zeros; no number is tested
 unfoldable pub readTickOf : List ℕ → TickRead

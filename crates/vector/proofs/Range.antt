@@ -1,4 +1,4 @@
--- How large a vector's components are: through sums, products and a turn by an attitude whose N is bounded. Assumes nothing.
+-- How large a vector's components are: through sums, products and a rotation by an attitude whose N is bounded. Assumes nothing.
 use Prim.Native.Nat.{ℕ}
 use lib.Dec.{T}
 use lib.Ieee.{Float, add, binary32, le, mul, neg, round}
@@ -12,7 +12,7 @@ use Rattle.float.proofs.Order.{le-neg}
 use Rattle.float.proofs.Sizes.{Sized, first-part, root-sized, second-part, sized, sized-add, sized-mul, sized-neg, sized-sub, twoTo}
 use Rattle.float.specs.Interval.{Within, inside}
 use Rattle.float.specs.Notation.{_⊕_, _⊗_, two}
-use Rattle.vector.specs.Rotation.{inverseRotateOf, quatNorm, turned, twist}
+use Rattle.vector.specs.Rotation.{inverseRotateOf, quatNorm, rotated, twist}
 use Rattle.vector.specs.Vector.{addOf, crossOf, scaleOf, subOf, vecInside}
 use Rattle.vector.specs.declared.Quaternion.{Quaternion}
 use Rattle.vector.specs.declared.Vec3.{Vec3}
@@ -27,7 +27,8 @@ pub vec-within : (limit : Float) (v : Vec3) → vecInside limit v ≡ true → V
 unfolding vecInside
 vec-within limit v e = go _ _ _ refl refl refl e
   where
-    go : (a b c : Bool) → inside (neg limit) limit (v .x) ≡ a → inside (neg limit) limit (v .y) ≡ b → inside (neg limit) limit (v .z) ≡ c → cond a (cond b c false) false ≡ true → VecWithin limit v
+    go : (a b c : Bool) → inside (neg limit) limit (v .x) ≡ a → inside (neg limit) limit (v .y) ≡ b → inside (neg limit) limit (v .z) ≡ c
+        → cond a (cond b c false) false ≡ true → VecWithin limit v
     go true true true p q r h = record { x = inside-within p; y = inside-within q; z = inside-within r }
     go true true false p q r h = absurd (false≢true h)
     go true false c p q r h = absurd (false≢true h)
@@ -53,12 +54,14 @@ pub sub-sized : {n m : ℕ} {u v : Vec3} (k : ℕ) → VecSized n u → VecSized
 unfolding subOf
 sub-sized k s t h = record { x = sized-sub k (s .x) (t .x) h; y = sized-sub k (s .y) (t .y) h; z = sized-sub k (s .z) (t .z) h }
 
-scale-sized : {n m : ℕ} {u : Vec3} {f : Float} (k : ℕ) → VecSized n u → Sized m f → T (le (mul binary32 (twoTo n) (twoTo m)) (twoTo k)) → VecSized k (scaleOf u f)
+scale-sized : {n m : ℕ} {u : Vec3} {f : Float} (k : ℕ) → VecSized n u → Sized m f → T (le (mul binary32 (twoTo n) (twoTo m)) (twoTo k))
+    → VecSized k (scaleOf u f)
 unfolding scaleOf
 scale-sized k s t h = record { x = sized-mul k (s .x) t h; y = sized-mul k (s .y) t h; z = sized-mul k (s .z) t h }
 
 -- j for the products, k for their differences
-cross-sized : {n m : ℕ} {u v : Vec3} (j k : ℕ) → VecSized n u → VecSized m v → T (le (mul binary32 (twoTo n) (twoTo m)) (twoTo j)) → T (le (add binary32 (twoTo j) (twoTo j)) (twoTo k)) → VecSized k (crossOf u v)
+cross-sized : {n m : ℕ} {u v : Vec3} (j k : ℕ) → VecSized n u → VecSized m v → T (le (mul binary32 (twoTo n) (twoTo m)) (twoTo j))
+    → T (le (add binary32 (twoTo j) (twoTo j)) (twoTo k)) → VecSized k (crossOf u v)
 unfolding crossOf
 cross-sized j k s t p q = record {
   x = sized-sub k (sized-mul j (s .y) (t .z) p) (sized-mul j (s .z) (t .y) p) q;
@@ -96,9 +99,9 @@ norm-sized q c small h =
     }
 
 -- ---- a speed of at most 2 ^ 11 on body axes
-turned-sized : {a : Float} {u v : Vec3} → Sized 1 a → VecSized 1 u → VecSized 11 v → VecSized 18 (turned a u v)
-unfolding turned twist
-turned-sized s u v =
+rotated-sized : {a : Float} {u v : Vec3} → Sized 1 a → VecSized 1 u → VecSized 11 v → VecSized 18 (rotated a u v)
+unfolding rotated twist
+rotated-sized s u v =
     let doubled : Sized 1 two = sized 1 (unfold le neg in tt) (unfold le in tt) in
     let twisted = scale-sized 14 (cross-sized 12 13 u v (unfold le mul round in tt) (unfold le add round in tt)) doubled (unfold le mul round in tt) in
     let first = scale-sized 15 twisted s (unfold le mul round in tt) in
@@ -107,4 +110,4 @@ turned-sized s u v =
 
 pub inverse-rotate-sized : (q : Quaternion) {v : Vec3} → QuatSized 1 q → VecSized 11 v → VecSized 18 (inverseRotateOf q v)
 unfolding inverseRotateOf
-inverse-rotate-sized q s v = turned-sized (s .w) (record { x = sized-neg (s .i); y = sized-neg (s .j); z = sized-neg (s .k) }) v
+inverse-rotate-sized q s v = rotated-sized (s .w) (record { x = sized-neg (s .i); y = sized-neg (s .j); z = sized-neg (s .k) }) v

@@ -16,7 +16,7 @@ use Rattle.float.proofs.Tests.{by-cases}
 use Rattle.float.specs.Interval.{inside}
 use Rattle.lag.specs.Lag.{stepLeast, stepMost}
 use Rattle.wing.specs.Tick.{acceptedTick, nextOf, refusedOf, tickOf, tickWith, unlessDeparted, windUsable}
-use Rattle.wing.specs.declared.Ticked.{Ticked}
+use Rattle.wing.specs.declared.TickResult.{TickResult}
 
 -- a test a line, in their order
 pub record Passed (a : Airframe) (f : Flight) (t : Tick) : Type 0 where
@@ -26,14 +26,16 @@ pub record Passed (a : Airframe) (f : Flight) (t : Tick) : Type 0 where
   pub wind : windUsable (t .«wind_ned_mps») ≡ true
   pub next : isInside (nextOf a f t .flight) ≡ true
 
-pub of-tick : (P : Ticked → Type 0) (a : Airframe) (f : Flight) (t : Tick) → ((x : Answer) → (numberOf x ≡ 0 → ⊥) → P (refusedOf x f)) → (Passed a f t → P (nextOf a f t)) → P (tickOf a f t)
+pub tick-cases : (P : TickResult → Type 0) (a : Airframe) (f : Flight) (t : Tick) → ((x : Answer) → (numberOf x ≡ 0 → ⊥) → P (refusedOf x f))
+    → (Passed a f t → P (nextOf a f t)) → P (tickOf a f t)
 unfolding tickOf tickWith acceptedTick unlessDeparted
-of-tick P a f t refused next =
+tick-cases P a f t refused next =
     by-cases P (eqb (refusedPlace a) 0)
     (λ p. by-cases P (isInside f)
     (λ s. by-cases P (inside stepLeast stepMost (t .«step_s»))
     (λ h. by-cases P (windUsable (t .«wind_ned_mps»))
-    (λ w. by-cases P (isInside (nextOf a f t .flight)) (λ n. next (record { airframe = eqb-true _ _ p; state = s; step = h; wind = w; next = n })) (refused Departure (suc-ne-zero 8)))
+    (λ w. by-cases P (isInside (nextOf a f t .flight)) (λ n. next (record { airframe = eqb-true _ _ p; state = s; step = h; wind = w; next = n }))
+    (refused Departure (suc-ne-zero 8)))
     (refused WindUnusable (suc-ne-zero 9)))
     (refused StepOutside (suc-ne-zero 7)))
     (refused StateOutside (suc-ne-zero 6)))
@@ -42,4 +44,4 @@ of-tick P a f t refused next =
 -- so a tick that answers 0 has passed
 pub passed : (a : Airframe) (f : Flight) (t : Tick) → numberOf (tickOf a f t .report .answer) ≡ 0 → Passed a f t
 unfolding refusedOf
-passed a f t = of-tick (λ (k : Ticked). numberOf (k .report .answer) ≡ 0 → Passed a f t) a f t (λ x n e. absurd (n e)) (λ p e. p)
+passed a f t = tick-cases (λ (k : TickResult). numberOf (k .report .answer) ≡ 0 → Passed a f t) a f t (λ x n e. absurd (n e)) (λ p e. p)

@@ -29,6 +29,9 @@ tickPull pull a f t = pull (spunOf a f t) (a .model .«thrust_falloff») (tickAi
 abbrev pub loadsBy : Pull → Airframe → Flight → Tick → Loaded
 loadsBy pull a f t = loadsUnder a (tickPull pull a f t) (movedOf a f t) (liftedOf a f t) (bodyOf f) (tickAir f t) (densityFor f)
 
-pub tick-under : (pull : Pull) (a : Airframe) (f : Flight) (t : Tick) → tickPull wrenchWith a f t ≡ tickPull pull a f t → tickOf a f t ≡ tickWith a f t (liftedOf a f t) (loadsBy pull a f t)
+pub tick-under : (pull : Pull) (a : Airframe) (f : Flight) (t : Tick) → tickPull wrenchWith a f t ≡ tickPull pull a f t
+    → tickOf a f t ≡ tickWith a f t (liftedOf a f t) (loadsBy pull a f t)
 unfolding tickOf loadsIn loadsOf pullOf
-tick-under pull a f t e = ap (λ (p : MotorWrench). tickWith a f t (liftedOf a f t) (loadsUnder a p (movedOf a f t) (liftedOf a f t) (bodyOf f) (tickAir f t) (densityFor f))) e
+tick-under pull a f t e =
+    ap (λ (p : MotorWrench). tickWith a f t (liftedOf a f t)
+    (loadsUnder a p (movedOf a f t) (liftedOf a f t) (bodyOf f) (tickAir f t) (densityFor f))) e

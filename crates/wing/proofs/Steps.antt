@@ -4,7 +4,7 @@ use lib.Ieee.{Float, binary32, fits, ofBits, toBits}
 use lib.Ieee.Bits.{ofBits-toBits}
 use mathlib.Core.Path.{_∙_, _≡_, ap, sym}
 use Rattle.airframe.specs.declared.Airframe.{Airframe}
-use Rattle.wing.specs.Contracts.{OfTheirStep, beginBy, beginOf}
+use Rattle.wing.specs.Contracts.{FactorsMatchStep, lagFactorsFrom, beginOf}
 use Rattle.wing.specs.declared.LagFactors.{LagFactors}
 
 module _ (a : Airframe) where
@@ -17,8 +17,8 @@ module _ (a : Airframe) where
   abbrev lift : Float → Float
   lift x = beginOf a x .lift
 
-  pub begin-held : (held : LagFactors) (h : Float) → T (fits binary32 h) → toBits binary32 h ≡ held .«step_bits» → OfTheirStep a held → held ≡ beginOf a h
-  unfolding beginBy
+  pub begin-held : (held : LagFactors) (h : Float) → T (fits binary32 h) → toBits binary32 h ≡ held .«step_bits» → FactorsMatchStep a held → held ≡ beginOf a h
+  unfolding lagFactorsFrom
   begin-held held h f p k = λ i. record {
     «step_bits» = sym p i;
     motor = (k .motor ∙ ap motor e) i;
@@ -29,8 +29,8 @@ module _ (a : Airframe) where
       e : ofBits binary32 (held .«step_bits») ≡ h
       e = ap (ofBits binary32) (sym p) ∙ ofBits-toBits binary32 h f
 
-  pub begin-of-its-step : (h : Float) → T (fits binary32 h) → OfTheirStep a (beginOf a h)
-  unfolding beginBy
+  pub begin-of-its-step : (h : Float) → T (fits binary32 h) → FactorsMatchStep a (beginOf a h)
+  unfolding lagFactorsFrom
   begin-of-its-step h f = record { motor = ap motor e; servo = ap servo e; lift = ap lift e }
     where
       e : h ≡ ofBits binary32 (toBits binary32 h)

@@ -6,17 +6,17 @@ use mathlib.Core.Path.{_≡_}
 use Rattle.airframe.specs.Contracts.{lagConstantsOf}
 use Rattle.airframe.specs.declared.Airframe.{Airframe}
 use Rattle.airframe.specs.declared.LagConstants.{LagConstants}
-use Rattle.float.specs.Notation.{nought}
+use Rattle.float.specs.Notation.{zero}
 use Rattle.lag.specs.Lag.{factorOf}
 use Rattle.wing.specs.declared.LagFactors.{LagFactors}
 
 -- the lift rotors' lag factor, 0 without lift numbers
 unfoldable pub liftFactor : LagConstants → Float → Float
-liftFactor k h = cond (k .«lift_present») (factorOf h (k .«lift_s»)) nought
+liftFactor k h = cond (k .«lift_present») (factorOf h (k .«lift_s»)) zero
 
 -- begin(h): the lag factors of a step, with its bits
-unfoldable pub beginBy : LagConstants → Float → LagFactors
-beginBy k h = record {
+unfoldable pub lagFactorsFrom : LagConstants → Float → LagFactors
+lagFactorsFrom k h = record {
   «step_bits» = toBits binary32 h;
   motor = factorOf h (k .«motor_s»);
   servo = factorOf h (k .«servo_s»);
@@ -24,10 +24,10 @@ beginBy k h = record {
 }
 
 abbrev pub beginOf : Airframe → Float → LagFactors
-beginOf a h = beginBy (lagConstantsOf a) h
+beginOf a h = lagFactorsFrom (lagConstantsOf a) h
 
 -- factors that are those of the step with their bits
-pub record OfTheirStep (a : Airframe) (held : LagFactors) : Type 0 where
+pub record FactorsMatchStep (a : Airframe) (held : LagFactors) : Type 0 where
   pub motor : held .motor ≡ beginOf a (ofBits binary32 (held .«step_bits»)) .motor
   pub servo : held .servo ≡ beginOf a (ofBits binary32 (held .«step_bits»)) .servo
   pub lift : held .lift ≡ beginOf a (ofBits binary32 (held .«step_bits»)) .lift

@@ -10,7 +10,7 @@ use Rattle.body.specs.declared.Body.{Body}
 use Rattle.body.specs.declared.Wrench.{Wrench}
 use Rattle.fixed_wing.specs.declared.FixedWingModel.{FixedWingModel}
 use Rattle.flight.specs.declared.Flight.{Flight}
-use Rattle.float.specs.Notation.{_⊗_, nought}
+use Rattle.float.specs.Notation.{_⊗_, zero}
 use Rattle.motors.specs.Motor.{wrenchWith}
 use Rattle.motors.specs.declared.MotorWrench.{MotorWrench}
 use Rattle.motors.specs.declared.Motors.{Motors}
@@ -43,14 +43,14 @@ washFor a thrust axial density = cond (a .«wash_present») (washOf (a .wash) th
 -- thrust along body x, on a line that may lie below the centre of gravity
 unfoldable pub withThrust : FixedWingModel → MotorWrench → Aero → Wrench
 withThrust m pull aero = record {
-  «force_n» = addOf (aero .«force_n») (vec (pull .«thrust_n») nought nought);
+  «force_n» = addOf (aero .«force_n») (vec (pull .«thrust_n») zero zero);
   «torque_nm» =
-      addOf (addOf (aero .«torque_nm») (pull .«torque_nm»)) (vec nought (pull .«thrust_n» ⊗ m .«thrust_line_below_cg_m») nought);
+      addOf (addOf (aero .«torque_nm») (pull .«torque_nm»)) (vec zero (pull .«thrust_n» ⊗ m .«thrust_line_below_cg_m») zero);
 }
 
 -- the lift rotors' force and torque last; without lift numbers they add nothing (02, 5)
 unfoldable pub withLift : Airframe → List Float → Vec3 → Wrench → Wrench
-withLift a lifting air w = cond (a .«lift_present») (addWrench w (liftWrench (a .lift) lifting air)) w
+withLift a liftRunning air w = cond (a .«lift_present») (addWrench w (liftWrench (a .lift) liftRunning air)) w
 
 -- the force on NED axes, and what is reported: the thrust is the forward motors' sum
 unfoldable pub loadedBy : Quaternion → Wrench → Aero → Float → Loaded
@@ -74,11 +74,11 @@ aeroOf a thrust surfaces b air density =
 
 -- under a pull of the motors
 unfoldable pub loadsUnder : Airframe → MotorWrench → Surfaces → List Float → Body → Vec3 → Float → Loaded
-loadsUnder a pull surfaces lifting b air density =
+loadsUnder a pull surfaces liftRunning b air density =
     let aero = aeroOf a (pull .«thrust_n») surfaces b air density in
-    loadedBy (b .attitude) (withLift a lifting air (withThrust (a .model) pull aero)) aero (pull .«thrust_n»)
+    loadedBy (b .attitude) (withLift a liftRunning air (withThrust (a .model) pull aero)) aero (pull .«thrust_n»)
 
--- `lifting` are the lift rotors' running values
+-- `liftRunning` are the lift rotors' running values
 unfoldable pub loadsOf : Airframe → Motors → Surfaces → List Float → Body → Vec3 → Float → Loaded
-loadsOf a motors surfaces lifting b wind density =
-    loadsUnder a (pullOf (a .model) motors (airOf b wind)) surfaces lifting b (airOf b wind) density
+loadsOf a motors surfaces liftRunning b wind density =
+    loadsUnder a (pullOf (a .model) motors (airOf b wind)) surfaces liftRunning b (airOf b wind) density

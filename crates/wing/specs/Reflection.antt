@@ -6,7 +6,7 @@ use Rattle.flight.specs.Reflection.{FlightRel}
 use Rattle.float.specs.Same.{Opposite, Same}
 use Rattle.wing.specs.declared.Loaded.{Loaded}
 use Rattle.wing.specs.declared.Report.{Report}
-use Rattle.wing.specs.declared.Ticked.{Ticked}
+use Rattle.wing.specs.declared.TickResult.{TickResult}
 
 pub record LoadedRel (l l' : Loaded) : Type 0 where
   pub loads : LoadsRel (l .loads) (l' .loads)
@@ -20,6 +20,6 @@ pub record ReportRel (r r' : Report) : Type 0 where
   pub beta : Opposite (r .«beta_rad») (r' .«beta_rad»)
   pub thrust : Same (r .«thrust_n») (r' .«thrust_n»)
 
-pub record TickedRel (r r' : Ticked) : Type 0 where
+pub record TickedRel (r r' : TickResult) : Type 0 where
   pub report : ReportRel (r .report) (r' .report)
   pub flight : FlightRel (r .flight) (r' .flight)

@@ -43,7 +43,7 @@ pub struct Report {
 }
 
 // A tick's report and the state it hands back.
-pub struct Ticked {
+pub struct TickResult {
     pub report: Report,
     pub flight: Flight,
 }
@@ -58,7 +58,7 @@ pub struct LagFactors {
 }
 
 // One tick from `f`: refused with 6, 7, 8, 10 or 9, in this order, it hands back `f`.
-pub fn tick(a: Airframe, f: Flight, t: Tick) -> Ticked
+pub fn tick(a: Airframe, f: Flight, t: Tick) -> TickResult
     ensures { λ r. ⌜ r ≡ TickOf.tickOf a f t ⌝ }
 {
     let place = a.refused_place();
@@ -79,7 +79,7 @@ pub fn tick_accepted(
     lags: LagFactors,
     powers: &[f32; POWER_COUNT],
     densities: &[f32; ROW_COUNT],
-) -> Ticked
+) -> TickResult
     requires { ⌜ refusedPlace a ≡ 0 ⌝ ∗ ⌜ lags ≡ Contracts.beginOf a (t .«step_s») ⌝ ∗ ⌜ now powers ≡ powersOfTwo ⌝
         ∗ ⌜ now densities ≡ Density.densities ⌝ }
     ensures { λ r. ⌜ r ≡ TickOf.tickOf a f t ⌝ }
@@ -98,7 +98,7 @@ pub fn tick_inside(
     lags: LagFactors,
     powers: &[f32; POWER_COUNT],
     densities: &[f32; ROW_COUNT],
-) -> Ticked
+) -> TickResult
     requires { ⌜ refusedPlace a ≡ 0 ⌝ ∗ ⌜ isInside f ≡ true ⌝ ∗ ⌜ lags ≡ Contracts.beginOf a (t .«step_s») ⌝
         ∗ ⌜ now powers ≡ powersOfTwo ⌝
         ∗ ⌜ now densities ≡ Density.densities ⌝ }
@@ -121,7 +121,7 @@ fn wind_usable(wind_ned_mps: Vec3) -> bool
 }
 
 // A refusal: the state as it was given, and zeros.
-pub fn refused(answer: Answer, f: Flight) -> Ticked
+pub fn refused(answer: Answer, f: Flight) -> TickResult
     ensures { λ r. ⌜ r ≡ TickOf.refusedOf answer f ⌝ }
 {
     let report = Report {
@@ -130,11 +130,11 @@ pub fn refused(answer: Answer, f: Flight) -> Ticked
         beta_rad: 0.0,
         thrust_n: 0.0,
     };
-    Ticked { report, flight: f }
+    TickResult { report, flight: f }
 }
 
 // The next state where it is inside the envelope; else a departure from `f`.
-fn unless_departed(f: Flight, n: Ticked) -> Ticked
+fn unless_departed(f: Flight, n: TickResult) -> TickResult
     ensures { λ r. ⌜ r ≡ TickOf.unlessDeparted f n ⌝ }
 {
     let g = n.flight;
@@ -149,13 +149,17 @@ pub fn begin(a: Airframe, step_s: f32, powers: &[f32; POWER_COUNT]) -> LagFactor
     requires { ⌜ now powers ≡ powersOfTwo ⌝ }
     ensures { λ r. ⌜ r ≡ Contracts.beginOf a «step_s» ⌝ }
 {
-    begin_by(a.lag_constants(), step_s, powers)
+    lag_factors_from(a.lag_constants(), step_s, powers)
 }
 
 // The same by the lags' constants: an airframe in an array need not be read for them.
-pub fn begin_by(constants: LagConstants, step_s: f32, powers: &[f32; POWER_COUNT]) -> LagFactors
+pub fn lag_factors_from(
+    constants: LagConstants,
+    step_s: f32,
+    powers: &[f32; POWER_COUNT],
+) -> LagFactors
     requires { ⌜ now powers ≡ powersOfTwo ⌝ }
-    ensures { λ r. ⌜ r ≡ Contracts.beginBy constants «step_s» ⌝ }
+    ensures { λ r. ⌜ r ≡ Contracts.lagFactorsFrom constants «step_s» ⌝ }
 {
     LagFactors {
         step_bits: float::to_bits(step_s),
@@ -176,14 +180,14 @@ fn lift_factor(constants: LagConstants, step_s: f32, powers: &[f32; POWER_COUNT]
 }
 
 // The lag factors of a step; `held`, those of the last step, are reused while the step has the same bits.
-pub fn begin_after(
+pub fn cached_lag_factors(
     a: Airframe,
     held: LagFactors,
     step_s: f32,
     powers: &[f32; POWER_COUNT],
 ) -> LagFactors
-    requires { ⌜ Contracts.OfTheirStep a held ⌝ ∗ ⌜ now powers ≡ powersOfTwo ⌝ }
-    ensures { λ r. ⌜ r ≡ Contracts.beginOf a «step_s» ⌝ ∗ ⌜ Contracts.OfTheirStep a r ⌝ }
+    requires { ⌜ Contracts.FactorsMatchStep a held ⌝ ∗ ⌜ now powers ≡ powersOfTwo ⌝ }
+    ensures { λ r. ⌜ r ≡ Contracts.beginOf a «step_s» ⌝ ∗ ⌜ Contracts.FactorsMatchStep a r ⌝ }
 {
     if float::to_bits(step_s) == held.step_bits {
         return held;
@@ -199,7 +203,7 @@ fn next_with(
     lags: LagFactors,
     powers: &[f32; POWER_COUNT],
     densities: &[f32; ROW_COUNT],
-) -> Ticked
+) -> TickResult
     requires { ⌜ lags ≡ Contracts.beginOf a (t .«step_s») ⌝ ∗ ⌜ now powers ≡ powersOfTwo ⌝
         ∗ ⌜ now densities ≡ Density.densities ⌝ }
     ensures { λ r. ⌜ r ≡ TickOf.nextOf a f t ⌝ }
@@ -208,12 +212,12 @@ fn next_with(
     let servo_commands = t.servos;
     let motors = motors_of(a, f).spin(commands, lags.motor);
     let surfaces = surfaces_of(a, f).move_to(servo_commands, lags.servo);
-    let lifting = lift_spun(a, f, commands, lags.lift);
+    let lift_running = lift_spun(a, f, commands, lags.lift);
     let loaded = loads(
         a,
         motors,
         surfaces,
-        lifting,
+        lift_running,
         f.body(),
         t.wind_ned_mps,
         density_for(f, densities),
@@ -221,7 +225,15 @@ fn next_with(
     );
     let running = motors.running;
     let positions = surfaces.running;
-    stepped(a.model, f, running, positions, lifting, loaded, t.step_s)
+    stepped(
+        a.model,
+        f,
+        running,
+        positions,
+        lift_running,
+        loaded,
+        t.step_s,
+    )
 }
 
 // The air's density at a state's height, which is its position down negated (02, 6).
@@ -268,19 +280,19 @@ fn surfaces_of(a: Airframe, f: Flight) -> Surfaces
     Surfaces { weights, running }
 }
 
-// The loads from the running values alone, in air of `density_kgpm3`; `lifting` are the lift rotors'.
+// The loads from the running values alone, in air of `density_kgpm3`; `lift_running` are the lift rotors'.
 pub fn loads(
     a: Airframe,
     motors: Motors,
     surfaces: Surfaces,
-    lifting: [f32; 8],
+    lift_running: [f32; 8],
     body: Body,
     wind_ned_mps: Vec3,
     density_kgpm3: f32,
     powers: &[f32; POWER_COUNT],
 ) -> Loaded
     requires { ⌜ now powers ≡ powersOfTwo ⌝ }
-    ensures { λ r. ⌜ r ≡ LoadsOf.loadsOf a motors surfaces lifting body «wind_ned_mps» «density_kgpm3» ⌝ }
+    ensures { λ r. ⌜ r ≡ LoadsOf.loadsOf a motors surfaces «lift_running» body «wind_ned_mps» «density_kgpm3» ⌝ }
 {
     let m = a.model;
     let attitude = body.attitude;
@@ -301,7 +313,7 @@ pub fn loads(
         powers,
     );
     let thrusting = with_thrust(m, pull, aero);
-    let total = with_lift(a, lifting, air_mps, thrusting, powers);
+    let total = with_lift(a, lift_running, air_mps, thrusting, powers);
     loaded_by(attitude, total, aero, pull.thrust_n)
 }
 
@@ -331,17 +343,17 @@ fn with_thrust(m: FixedWingModel, pull: motors::MotorWrench, aero: aero::Aero) -
 // Adds what the lift rotors do at their running values; without lift numbers that is nothing.
 fn with_lift(
     a: Airframe,
-    lifting: [f32; 8],
+    lift_running: [f32; 8],
     air_mps: Vec3,
     wrench: Wrench,
     powers: &[f32; POWER_COUNT],
 ) -> Wrench
     requires { ⌜ now powers ≡ powersOfTwo ⌝ }
-    ensures { λ r. ⌜ r ≡ LoadsOf.withLift a lifting «air_mps» wrench ⌝ }
+    ensures { λ r. ⌜ r ≡ LoadsOf.withLift a «lift_running» «air_mps» wrench ⌝ }
 {
     if a.lift_present {
         let lift = a.lift;
-        return wrench.add(lift.wrench(lifting, air_mps, powers));
+        return wrench.add(lift.wrench(lift_running, air_mps, powers));
     }
     wrench
 }
@@ -380,7 +392,7 @@ fn stepped(
     lift_motors: [f32; 8],
     loaded: Loaded,
     step_s: f32,
-) -> Ticked
+) -> TickResult
     ensures { λ r. ⌜ r ≡ TickOf.steppedOf m f motors servos «lift_motors» loaded «step_s» ⌝ }
 {
     let inertia_kgm2 = m.inertia_kgm2;
@@ -399,5 +411,5 @@ fn stepped(
         beta_rad: loaded.beta_rad,
         thrust_n: loaded.thrust_n,
     };
-    Ticked { report, flight }
+    TickResult { report, flight }
 }

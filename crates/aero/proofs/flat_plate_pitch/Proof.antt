@@ -14,12 +14,18 @@ flat-plate-pressure-drag-requires c κs = search needs
 static-margin-chords-requires : tie.Need-static-margin-chords-requires
 static-margin-chords-requires c κs = search needs
 
-size-requires : tie.Need-size-requires
-size-requires c κs = search needs
+abs-requires : tie.Need-abs-requires
+abs-requires c κs = search needs
 
 returns : tie.Need-returns
 unfolding flatPlatePitch plateNormal ofBits round
-returns c = simp (c .size .ensures, c .before .static-margin-chords .ensures, c .before .before .flat-plate-pressure-drag .ensures, c .before .before .before .flat-plate-lift .ensures)
+returns c =
+    simp (
+      c .abs .ensures,
+      c .before .static-margin-chords .ensures,
+      c .before .before .flat-plate-pressure-drag .ensures,
+      c .before .before .before .flat-plate-lift .ensures,
+    )
 
 pub flat-plate-pitch-spec : {M : Type 1} → statement M
 flat-plate-pitch-spec =
@@ -28,5 +34,5 @@ flat-plate-pitch-spec =
     flat-plate-lift-requires
     flat-plate-pressure-drag-requires
     static-margin-chords-requires
-    size-requires
+    abs-requires
     returns)

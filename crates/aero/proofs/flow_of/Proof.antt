@@ -24,7 +24,15 @@ pressure-area-n-requires c κs = search needs
 
 returns : tie.Need-returns
 unfolding flowOf flowAt
-returns c = simp (c .pressure-area-n .ensures, c .before .cosf .ensures, c .before .before .sinf .ensures, c .before .before .before .stall-blend .ensures, c .before .before .before .before .symmetric-speed-mps .ensures, c .before .before .before .before .before .atan2f .ensures)
+returns c =
+    simp (
+      c .pressure-area-n .ensures,
+      c .before .cosf .ensures,
+      c .before .before .sinf .ensures,
+      c .before .before .before .stall-blend .ensures,
+      c .before .before .before .before .symmetric-speed-mps .ensures,
+      c .before .before .before .before .before .atan2f .ensures,
+    )
 
 pub flow-of-spec : {M : Type 1} → statement M
 flow-of-spec =

@@ -43,7 +43,21 @@ with-surfaces-requires c κs = search needs
 
 returns : tie.Need-returns
 unfolding movingOf movingAt torqueAt surfaceFree ofBits
-returns c = simp (c .with-surfaces .ensures, c .before .add3 .ensures, c .before .before .rate-moments .ensures, c .before .before .before .add2 .ensures, c .before .before .before .before .stall-wash-nm .ensures, c .before .before .before .before .before .add .ensures, c .before .before .before .before .before .before .wash-pitch-nm .ensures, c .before .before .before .before .before .before .before .static-nm .ensures, c .before .before .before .before .before .before .before .before .flow-force-n .ensures, c .before .before .before .before .before .before .before .before .before .before .wash-rate-scale .ensures, c .before .before .before .before .before .before .before .before .before .before .before .washed-surfaces .ensures, c .before .before .before .before .before .before .before .before .before .before .before .before .before .before .pressure-area-n .ensures)
+returns c =
+    simp (
+      c .with-surfaces .ensures,
+      c .before .add3 .ensures,
+      c .before .before .rate-moments .ensures,
+      c .before .before .before .add2 .ensures,
+      c .before .before .before .before .stall-wash-nm .ensures,
+      c .before .before .before .before .before .add .ensures,
+      c .before .before .before .before .before .before .wash-pitch-nm .ensures,
+      c .before .before .before .before .before .before .before .static-nm .ensures,
+      c .before .before .before .before .before .before .before .before .flow-force-n .ensures,
+      c .before .before .before .before .before .before .before .before .before .before .wash-rate-scale .ensures,
+      c .before .before .before .before .before .before .before .before .before .before .before .washed-surfaces .ensures,
+      c .before .before .before .before .before .before .before .before .before .before .before .before .before .before .pressure-area-n .ensures,
+    )
 
 pub moving-spec : {M : Type 1} → statement M
 moving-spec =

@@ -3,16 +3,17 @@ use lib.Ieee.{Float, le, ofBits}
 use mathlib.Core.Bool.{cond, false, true}
 use mathlib.Core.Path.{_≡_}
 use borrow.Author.Needs.{needs}
-use Rattle.float.specs.Notation.{_⊕_, _⊖_, _⊗_, nought}
+use Rattle.float.specs.Notation.{_⊕_, _⊖_, _⊗_, zero}
 use Rattle.aero.specs.Coefficients.{onSine, pitchCoefficient}
 use Rattle.aero.proofs.pitch_coefficient.Statement.{statement}
 use Rattle.aero.proofs.pitch_coefficient.Tie as tie
 
 -- the choice of the definition, with its parts as variables
-first-is : (share on off : Float) → le share nought ≡ true → on ≡ cond (le share nought) on off
+first-is : (share on off : Float) → le share zero ≡ true → on ≡ cond (le share zero) on off
 first-is share on off e = rw e
 
-second-is : (share on pitch base : Float) (plate plate' : Float) → le share nought ≡ false → plate' ≡ plate → on ⊕ share ⊗ (base ⊕ plate' ⊖ on) ≡ cond (le share nought) pitch (on ⊕ share ⊗ (base ⊕ plate ⊖ on))
+second-is : (share on pitch base : Float) (plate plate' : Float) → le share zero ≡ false → plate' ≡ plate
+    → on ⊕ share ⊗ (base ⊕ plate' ⊖ on) ≡ cond (le share zero) pitch (on ⊕ share ⊗ (base ⊕ plate ⊖ on))
 second-is share on pitch base plate plate' e f = rw (e, f)
 
 returns : tie.Need-returns

@@ -19,7 +19,13 @@ new-requires c κs = search needs
 
 returns : tie.Need-returns
 unfolding stallWash stallShare ofBits
-returns c = simp (c .new .ensures, c .before .before .before .before .at-least-zero2 .ensures, c .before .before .before .before .before .before .free-share .ensures, c .before .before .before .before .before .before .before .at-least-zero .ensures)
+returns c =
+    simp (
+      c .new .ensures,
+      c .before .before .before .before .at-least-zero2 .ensures,
+      c .before .before .before .before .before .before .free-share .ensures,
+      c .before .before .before .before .before .before .before .at-least-zero .ensures,
+    )
 
 pub stall-wash-nm-spec : {M : Type 1} → statement M
 stall-wash-nm-spec =

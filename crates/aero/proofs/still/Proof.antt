@@ -25,7 +25,15 @@ add-requires-2 c κs = search needs
 
 returns : tie.Need-returns
 unfolding stillOf ofBits
-returns c = simp (c .add2 .ensures, c .before .rate-moments .ensures, c .before .before .add .ensures, c .before .before .before .wash-pitch-nm .ensures, c .before .before .before .before .wash-rate-scale .ensures, c .before .before .before .before .before .before .before .washed-surfaces .ensures)
+returns c =
+    simp (
+      c .add2 .ensures,
+      c .before .rate-moments .ensures,
+      c .before .before .add .ensures,
+      c .before .before .before .wash-pitch-nm .ensures,
+      c .before .before .before .before .wash-rate-scale .ensures,
+      c .before .before .before .before .before .before .before .washed-surfaces .ensures,
+    )
 
 pub still-spec : {M : Type 1} → statement M
 still-spec =

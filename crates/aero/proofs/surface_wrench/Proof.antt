@@ -22,7 +22,14 @@ add-requires c κs = search needs
 
 returns : tie.Need-returns
 unfolding surfaceWrench aileronMoment elevatorAndRudder ofBits
-returns c = simp (c .add .ensures, c .before .new3 .ensures, c .before .before .before .before .scale .ensures, c .before .before .before .before .before .new2 .ensures, c .before .before .before .before .before .before .before .before .before .before .before .before .before .before .before .new .ensures)
+returns c =
+    simp (
+      c .add .ensures,
+      c .before .new3 .ensures,
+      c .before .before .before .before .scale .ensures,
+      c .before .before .before .before .before .new2 .ensures,
+      c .before .before .before .before .before .before .before .before .before .before .before .before .before .before .before .new .ensures,
+    )
 
 pub surface-wrench-spec : {M : Type 1} → statement M
 surface-wrench-spec =

@@ -19,7 +19,14 @@ moving-requires c κs = search needs
 
 returns : tie.Need-returns
 unfolding aeroWrench ofBits
-returns c = simp (c .moving .ensures, c .before .sideslip .ensures, c .before .before .flow-of .ensures, simp (c .before .before .before .before .norm .ensures) at (c .before .before .before .if1 .taken), c .before .before .before .before .norm .ensures)
+returns c =
+    simp (
+      c .moving .ensures,
+      c .before .sideslip .ensures,
+      c .before .before .flow-of .ensures,
+      simp (c .before .before .before .before .norm .ensures) at (c .before .before .before .if1 .taken),
+      c .before .before .before .before .norm .ensures,
+    )
 
 still-requires : tie.Need-still-requires
 still-requires c κs = search needs

@@ -40,7 +40,10 @@ returns-3 c =
 
 past-tests : (c : tie.Else3) → Inside (c .before .before .before .args .height-m)
 unfolding heightOf ofInt ofBits neg round
-past-tests c = between-ends (c .before .before .before .args .height-m) (same-number (c .before .before .before .args .height-m) (subst (λ (t : Bool). T (not t)) (sym (c .if3 .left)) tt)) (c .before .before .if1 .left) (c .before .if2 .left)
+past-tests c =
+    between-ends (c .before .before .before .args .height-m)
+    (same-number (c .before .before .before .args .height-m) (subst (λ (t : Bool). T (not t)) (sym (c .if3 .left)) tt)) (c .before .before .if1 .left)
+    (c .before .if2 .left)
 
 within-table-requires : tie.Need-within-table-requires
 within-table-requires c κs = (past-tests c, c .before .before .before .pre)

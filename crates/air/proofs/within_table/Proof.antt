@@ -46,7 +46,9 @@ module _ (h : Float) (w : Inside h) (z : ℤ) (is : z ≡ guess h) where
 
   module _ (r : Float) (made : r ≡ heightOf (natAbs (toZ w64 (ofZ w64 z)))) where
     down : lt h r ≡ true → natAbs (toZ w64 (ofZ w64 z)) ≡ suc (rowDownFrom lastRow h)
-    down e = ap natAbs read-back ∙ stepped-down h w (g .k) (g .at-least) (g .at-most) (sym (ap (lt h) (made ∙ ap (λ (z : ℤ). heightOf (natAbs z)) read-back)) ∙ e)
+    down e =
+        ap natAbs read-back ∙ stepped-down h w (g .k) (g .at-least) (g .at-most)
+        (sym (ap (lt h) (made ∙ ap (λ (z : ℤ). heightOf (natAbs z)) read-back)) ∙ e)
 
     stays : lt h r ≡ false → natAbs (toZ w64 (ofZ w64 z)) ≡ rowDownFrom lastRow h
     stays e = ap natAbs read-back ∙ kept h w (g .k) (g .at-least) (g .at-most) (sym (ap (lt h) (made ∙ ap (λ (z : ℤ). heightOf (natAbs z)) read-back)) ∙ e)
@@ -76,7 +78,8 @@ went-down : (c : tie.Then1) → guess-of (c .before .before) ≡ suc (row-of (c 
 unfolding ofBits round
 went-down c =
     let g = c .before .before in
-    down (g .before .args .height-m) (g .before .pre .0) (g .truncated .result) (g .truncated .ensures .0) (c .before .row-height .result) (c .before .row-height .ensures) (c .if1 .taken)
+    down (g .before .args .height-m) (g .before .pre .0) (g .truncated .result) (g .truncated .ensures .0) (c .before .row-height .result)
+    (c .before .row-height .ensures) (c .if1 .taken)
 
 sub-between : tie.Need-sub-between
 sub-between c = some (guess-of (c .before .before)) (row-of (c .before .before)) (went-down c)
@@ -104,12 +107,15 @@ stayed : (c : tie.Else1) → guess-of (c .before .before) ≡ row-of (c .before 
 unfolding ofBits round
 stayed c =
     let g = c .before .before in
-    stays (g .before .args .height-m) (g .before .pre .0) (g .truncated .result) (g .truncated .ensures .0) (c .before .row-height .result) (c .before .row-height .ensures) (c .if1 .left)
+    stays (g .before .args .height-m) (g .before .pre .0) (g .truncated .result) (g .truncated .ensures .0) (c .before .row-height .result)
+    (c .before .row-height .ensures) (c .if1 .left)
 
 between-requires-2 : tie.Need-between-requires-2
 between-requires-2 c κs =
-    let g = c .before .before in
-    (subst (λ (k : ℕ). k < lastRow) (sym (stayed c)) (row-inside (g .before .args .height-m) (g .before .pre .0)), (c .before .row-height .ensures, g .before .pre .1))
+    let g = c .before .before in (
+      subst (λ (k : ℕ). k < lastRow) (sym (stayed c)) (row-inside (g .before .args .height-m) (g .before .pre .0)),
+      (c .before .row-height .ensures, g .before .pre .1),
+    )
 
 returns-2 : tie.Need-returns-2
 returns-2 c = c .between2 .ensures ∙ ap (λ (k : ℕ). between k (c .before .before .before .before .args .height-m)) (stayed (c .before))

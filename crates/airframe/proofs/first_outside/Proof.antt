@@ -56,8 +56,11 @@ cast-result c = search needs
 returns-2 : tie.Need-returns-2 Inv-loop μ-loop
 unfolding insideFrom numberInside
 returns-2 c =
-    let s = c .before .before .before .before .before in
-    (sym (s .loop .inv .2 ∙ fail-here _ (s .loop .i) _ (c .before .before .before .before .loop-test .taken) (sym (c .before .inside .ensures) ∙ not-true (c .if2 .taken))), search needs)
+    let s = c .before .before .before .before .before in (
+      sym (s .loop .inv .2 ∙ fail-here _ (s .loop .i) _ (c .before .before .before .before .loop-test .taken)
+          (sym (c .before .inside .ensures) ∙ not-true (c .if2 .taken))),
+      search needs,
+    )
 
 add-i : tie.Need-add-i Inv-loop μ-loop
 add-i c = search needs
@@ -68,8 +71,12 @@ loop-less c = search needs
 loop-again : tie.Need-loop-again Inv-loop μ-loop
 unfolding insideFrom numberInside
 loop-again c =
-    let s = c .before .before .before .before .before in
-    (search needs, search needs, s .loop .inv .2 ∙ fail-next _ (s .loop .i) _ (c .before .before .before .before .loop-test .taken) (sym (c .before .inside .ensures) ∙ not-false (c .if2 .left)))
+    let s = c .before .before .before .before .before in (
+      search needs,
+      search needs,
+      s .loop .inv .2 ∙ fail-next _ (s .loop .i) _ (c .before .before .before .before .loop-test .taken)
+          (sym (c .before .inside .ensures) ∙ not-false (c .if2 .left)),
+    )
 
 returns-3 : tie.Need-returns-3 Inv-loop μ-loop
 returns-3 c = (sym (c .before .loop .inv .2 ∙ fail-end _ (c .before .loop .i) _ (c .loop-test .left)), search needs)

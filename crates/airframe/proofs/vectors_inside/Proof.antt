@@ -40,7 +40,12 @@ loop-less c = search needs
 
 loop-again : tie.Need-loop-again Inv-loop μ-loop
 unfolding slotVecInside
-loop-again c = let s = c .before .before .before .before in (search needs, pass-more _ (s .loop .i) (s .loop .ok) _ (s .loop .inv .1) (c .both .ensures ∙ ap (λ (t : Bool). cond t (s .loop .ok) false) (c .before .is-inside .ensures)))
+loop-again c =
+    let s = c .before .before .before .before in (
+      search needs,
+      pass-more _ (s .loop .i) (s .loop .ok) _ (s .loop .inv .1)
+          (c .both .ensures ∙ ap (λ (t : Bool). cond t (s .loop .ok) false) (c .before .is-inside .ensures)),
+    )
 
 returns : tie.Need-returns Inv-loop μ-loop
 returns c = c .before .loop .inv .1 ∙ ap (allPass _) (le-antisymm (c .before .loop .inv .0) (c .loop-test .left))

@@ -7,17 +7,17 @@ use Rattle.airframe_block.proofs.airframe_by.Tie as tie
 motor-layout-of-requires : tie.Need-motor-layout-of-requires
 motor-layout-of-requires c κs = search needs
 
-array-read-mixed : tie.Need-array-read-mixed
-array-read-mixed c = search needs
+array-read-fill-from-rows : tie.Need-array-read-fill-from-rows
+array-read-fill-from-rows c = search needs
 
 lift-layout-of-requires : tie.Need-lift-layout-of-requires
 lift-layout-of-requires c κs = search needs
 
-array-read-mixed-2 : tie.Need-array-read-mixed-2
-array-read-mixed-2 c = search needs
+array-read-fill-from-rows-2 : tie.Need-array-read-fill-from-rows-2
+array-read-fill-from-rows-2 c = search needs
 
-mixed-requires : tie.Need-mixed-requires
-mixed-requires c κs = search needs
+fill-from-rows-requires : tie.Need-fill-from-rows-requires
+fill-from-rows-requires c κs = search needs
 
 surfaces-requires : tie.Need-surfaces-requires
 surfaces-requires c κs = search needs
@@ -33,9 +33,9 @@ returns c =
     simp (
       c .from-numbers .ensures,
       s .surfaces .ensures,
-      filled .mixed .ensures .1 .0,
-      filled .mixed .ensures .1 .1 .0,
-      filled .mixed .ensures .1 .1 .1,
+      filled .fill-from-rows .ensures .1 .0,
+      filled .fill-from-rows .ensures .1 .1 .0,
+      filled .fill-from-rows .ensures .1 .1 .1,
       filled .before .lift-layout-of .ensures,
       filled .before .before .motor-layout-of .ensures,
     )
@@ -45,10 +45,10 @@ airframe-by-spec =
     tie.close
     (tie.spec
     motor-layout-of-requires
-    array-read-mixed
+    array-read-fill-from-rows
     lift-layout-of-requires
-    array-read-mixed-2
-    mixed-requires
+    array-read-fill-from-rows-2
+    fill-from-rows-requires
     surfaces-requires
     from-numbers-requires
     returns)

@@ -36,7 +36,8 @@ returns : tie.Need-returns Inv-loop μ-loop
 unfolding badRow rowFitsAt
 returns c =
     let s = c .before .before .before .before in
-    sym (ap (firstFail _ 0) (sym (s .before .live .ensures .0)) ∙ s .loop .inv .2 ∙ fail-here _ (s .loop .k) _ (c .before .before .before .loop-test .taken) (sym (c .before .row-fits .ensures) ∙ not-true (c .if1 .taken)))
+    sym (ap (firstFail _ 0) (sym (s .before .live .ensures .0)) ∙ s .loop .inv .2
+    ∙ fail-here _ (s .loop .k) _ (c .before .before .before .loop-test .taken) (sym (c .before .row-fits .ensures) ∙ not-true (c .if1 .taken)))
 
 add-k : tie.Need-add-k Inv-loop μ-loop
 add-k c = search needs
@@ -47,8 +48,12 @@ loop-less c = search needs
 loop-again : tie.Need-loop-again Inv-loop μ-loop
 unfolding rowFitsAt
 loop-again c =
-    let s = c .before .before .before .before in
-    (search needs, search needs, s .loop .inv .2 ∙ fail-next _ (s .loop .k) _ (c .before .before .before .loop-test .taken) (sym (c .before .row-fits .ensures) ∙ not-false (c .if1 .left)))
+    let s = c .before .before .before .before in (
+      search needs,
+      search needs,
+      s .loop .inv .2 ∙ fail-next _ (s .loop .k) _ (c .before .before .before .loop-test .taken)
+          (sym (c .before .row-fits .ensures) ∙ not-false (c .if1 .left)),
+    )
 
 returns-2 : tie.Need-returns-2 Inv-loop μ-loop
 unfolding badRow

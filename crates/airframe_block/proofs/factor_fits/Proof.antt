@@ -9,15 +9,15 @@ returns : tie.Need-returns
 unfolding factorFits ofBits round
 returns c = simp (c .if1 .taken)
 
-size-requires : tie.Need-size-requires
-size-requires c κs = search needs
+abs-requires : tie.Need-abs-requires
+abs-requires c κs = search needs
 
 inside-requires : tie.Need-inside-requires
 inside-requires c κs = search needs
 
 returns-2 : tie.Need-returns-2
 unfolding factorFits ofBits round
-returns-2 c = simp (c .inside .ensures, c .before .size .ensures, c .before .before .if1 .left)
+returns-2 c = simp (c .inside .ensures, c .before .abs .ensures, c .before .before .if1 .left)
 
 pub factor-fits-spec : {M : Type 1} → statement M
-factor-fits-spec = tie.close (tie.spec returns size-requires inside-requires returns-2)
+factor-fits-spec = tie.close (tie.spec returns abs-requires inside-requires returns-2)

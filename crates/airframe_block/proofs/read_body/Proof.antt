@@ -3,7 +3,7 @@ use mathlib.Core.Path.{_∙_, ap, ap₂, sym}
 use native.Mathlib.Omega.{arith}
 use borrow.Author.Needs.{needs}
 use Rattle.airframe_block.proofs.Order.{body-read, body-refused}
-use Rattle.airframe_block.specs.Block.{airframeBy, bytesOf, placedAirframe, readRows, reservedRow, rowsFrom}
+use Rattle.airframe_block.specs.Block.{airframeBy, bytesOf, testedBlock, readRows, reservedRow, rowsFrom}
 use Rattle.airframe_block.proofs.read_body.Statement.{statement}
 use Rattle.airframe_block.proofs.read_body.Tie as tie
 
@@ -21,7 +21,9 @@ returns : tie.Need-returns
 returns c =
     let b = c .before .before in
     let a = b .before .before .before .args in
-    c .refused .ensures ∙ body-refused (a .s .now) (a .h) (λ q. c .before .if1 .taken (b .reserved-row .ensures ∙ ap (λ z. reservedRow (a .s .now) (a .h .lift) z (a .h .rows)) (b .before .rows-at .ensures .0) ∙ q))
+    c .refused .ensures ∙ body-refused (a .s .now) (a .h)
+    (λ q. c .before .if1 .taken (b .reserved-row .ensures
+    ∙ ap (λ z. reservedRow (a .s .now) (a .h .lift) z (a .h .rows)) (b .before .rows-at .ensures .0) ∙ q))
 
 read-rows-requires : tie.Need-read-rows-requires
 unfolding bytesOf
@@ -34,8 +36,8 @@ read-numbers-requires c κs = omega arith
 airframe-by-requires : tie.Need-airframe-by-requires
 airframe-by-requires c κs = search needs
 
-placed-requires : tie.Need-placed-requires
-placed-requires c κs = search needs
+tested-requires : tie.Need-tested-requires
+tested-requires c κs = search needs
 
 returns-2 : tie.Need-returns-2
 unfolding readRows
@@ -46,9 +48,10 @@ returns-2 c =
     let n = c .before .before in
     let rows = r .read-rows .ensures ∙ ap (λ z. rowsFrom (a .s .now) z (a .h .rows)) (b .before .rows-at .ensures .0) in
     let numbers = n .read-numbers .ensures in
-    c .placed .ensures
-    ∙ ap₂ placedAirframe (c .before .airframe-by .ensures ∙ ap₂ (λ x y. airframeBy x (a .h) y) numbers rows) rows
-    ∙ body-read (a .s .now) (a .h) (sym (b .reserved-row .ensures ∙ ap (λ z. reservedRow (a .s .now) (a .h .lift) z (a .h .rows)) (b .before .rows-at .ensures .0)) ∙ r .before .if1 .left)
+    c .tested .ensures
+    ∙ ap₂ testedBlock (c .before .airframe-by .ensures ∙ ap₂ (λ x y. airframeBy x (a .h) y) numbers rows) rows
+    ∙ body-read (a .s .now) (a .h) (sym (b .reserved-row .ensures
+    ∙ ap (λ z. reservedRow (a .s .now) (a .h .lift) z (a .h .rows)) (b .before .rows-at .ensures .0)) ∙ r .before .if1 .left)
 
 pub read-body-spec : {M : Type 1} → statement M
 read-body-spec =
@@ -61,5 +64,5 @@ read-body-spec =
     read-rows-requires
     read-numbers-requires
     airframe-by-requires
-    placed-requires
+    tested-requires
     returns-2)

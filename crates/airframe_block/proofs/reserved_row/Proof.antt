@@ -36,7 +36,8 @@ returns : tie.Need-returns Inv-loop μ-loop
 unfolding reservedRow rowClear
 returns c =
     let s = c .before .before .before .before in
-    sym (s .loop .inv .1 ∙ fail-here _ (s .loop .k) _ (c .before .before .before .loop-test .taken) (sym (c .before .bits-clear .ensures) ∙ not-true (c .if1 .taken)))
+    sym (s .loop .inv .1 ∙ fail-here _ (s .loop .k) _ (c .before .before .before .loop-test .taken)
+    (sym (c .before .bits-clear .ensures) ∙ not-true (c .if1 .taken)))
 
 add-k : tie.Need-add-k Inv-loop μ-loop
 add-k c = search needs
@@ -47,8 +48,11 @@ loop-less c = search needs
 loop-again : tie.Need-loop-again Inv-loop μ-loop
 unfolding rowClear
 loop-again c =
-    let s = c .before .before .before .before in
-    (search needs, s .loop .inv .1 ∙ fail-next _ (s .loop .k) _ (c .before .before .before .loop-test .taken) (sym (c .before .bits-clear .ensures) ∙ not-false (c .if1 .left)))
+    let s = c .before .before .before .before in (
+      search needs,
+      s .loop .inv .1 ∙ fail-next _ (s .loop .k) _ (c .before .before .before .loop-test .taken)
+          (sym (c .before .bits-clear .ensures) ∙ not-false (c .if1 .left)),
+    )
 
 returns-2 : tie.Need-returns-2 Inv-loop μ-loop
 unfolding reservedRow

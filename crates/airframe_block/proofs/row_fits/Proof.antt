@@ -16,11 +16,25 @@ factor-fits-requires-3 c κs = search needs
 
 returns : tie.Need-returns
 unfolding rowFits
-returns c = simp (c .factor-fits3 .ensures, simp (c .before .before .factor-fits2 .ensures, c .before .before .before .before .factor-fits .ensures) at (c .before .if2 .taken), c .before .before .factor-fits2 .ensures, simp (c .before .before .before .before .factor-fits .ensures) at (c .before .before .before .if1 .taken), c .before .before .before .before .factor-fits .ensures)
+returns c =
+    simp (
+      c .factor-fits3 .ensures,
+      simp (c .before .before .factor-fits2 .ensures, c .before .before .before .before .factor-fits .ensures) at
+          (c .before .if2 .taken),
+      c .before .before .factor-fits2 .ensures,
+      simp (c .before .before .before .before .factor-fits .ensures) at (c .before .before .before .if1 .taken),
+      c .before .before .before .before .factor-fits .ensures,
+    )
 
 returns-2 : tie.Need-returns-2
 unfolding rowFits
-returns-2 c = simp (simp (c .before .factor-fits2 .ensures, c .before .before .before .factor-fits .ensures) at (c .if2 .left), c .before .factor-fits2 .ensures, simp (c .before .before .before .factor-fits .ensures) at (c .before .before .if1 .taken), c .before .before .before .factor-fits .ensures)
+returns-2 c =
+    simp (
+      simp (c .before .factor-fits2 .ensures, c .before .before .before .factor-fits .ensures) at (c .if2 .left),
+      c .before .factor-fits2 .ensures,
+      simp (c .before .before .before .factor-fits .ensures) at (c .before .before .if1 .taken),
+      c .before .before .before .factor-fits .ensures,
+    )
 
 returns-3 : tie.Need-returns-3
 unfolding rowFits

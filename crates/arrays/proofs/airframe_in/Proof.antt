@@ -4,8 +4,8 @@ use borrow.Author.Needs.{needs}
 use Rattle.arrays.proofs.airframe_in.Statement.{statement}
 use Rattle.arrays.proofs.airframe_in.Tie as tie
 
-places-in-requires : tie.Need-places-in-requires
-places-in-requires c κs = search needs
+numbers-in-requires : tie.Need-numbers-in-requires
+numbers-in-requires c κs = search needs
 
 shared-slice-read-kind-of : tie.Need-shared-slice-read-kind-of
 shared-slice-read-kind-of c = search needs
@@ -68,14 +68,14 @@ returns c =
       l .is-set2 .ensures,
       w .is-set .ensures,
       k .kind-of .ensures,
-      k .before .before .places-in .ensures,
+      k .before .before .numbers-in .ensures,
     )
 
 pub airframe-in-spec : {M : Type 1} → statement M
 airframe-in-spec =
     tie.close
     (tie.spec
-    places-in-requires
+    numbers-in-requires
     shared-slice-read-kind-of
     kind-of-requires
     shared-slice-read-is-set

@@ -6,12 +6,12 @@ use borrow.Author.Needs.{needs}
 use Rattle.arrays.proofs.airframe_number.Statement.{statement}
 use Rattle.arrays.proofs.airframe_number.Tie as tie
 
-place-number-requires : tie.Need-place-number-requires
-place-number-requires c κs = search needs
+number-in-requires : tie.Need-number-in-requires
+number-in-requires c κs = search needs
 
 returns : tie.Need-returns
 unfolding airframeNumber
-returns c = simp (c .place-number .ensures, lt-ltb _ _ (c .before .if1 .taken))
+returns c = simp (c .number-in .ensures, lt-ltb _ _ (c .before .if1 .taken))
 
 kind-number-requires : tie.Need-kind-number-requires
 kind-number-requires c κs = search needs
@@ -25,7 +25,13 @@ flag-number-requires c κs = search needs
 
 returns-3 : tie.Need-returns-3
 unfolding airframeNumber
-returns-3 c = simp (c .flag-number .ensures, lt-ltb _ _ (c .before .if3 .taken), le-ltb _ _ (c .before .before .if2 .left), le-ltb _ _ (c .before .before .before .if1 .left))
+returns-3 c =
+    simp (
+      c .flag-number .ensures,
+      lt-ltb _ _ (c .before .if3 .taken),
+      le-ltb _ _ (c .before .before .if2 .left),
+      le-ltb _ _ (c .before .before .before .if1 .left),
+    )
 
 used-number-requires : tie.Need-used-number-requires
 used-number-requires c κs = search needs
@@ -34,7 +40,13 @@ returns-4 : tie.Need-returns-4
 unfolding airframeNumber
 returns-4 c =
     let s = c .before .before in
-    simp (c .used-number .ensures, lt-ltb _ _ (c .before .if4 .taken), le-ltb _ _ (s .if3 .left), le-ltb _ _ (s .before .if2 .left), le-ltb _ _ (s .before .before .if1 .left))
+    simp (
+      c .used-number .ensures,
+      lt-ltb _ _ (c .before .if4 .taken),
+      le-ltb _ _ (s .if3 .left),
+      le-ltb _ _ (s .before .if2 .left),
+      le-ltb _ _ (s .before .before .if1 .left),
+    )
 
 vecs-number-requires : tie.Need-vecs-number-requires
 vecs-number-requires c κs = search needs
@@ -43,7 +55,14 @@ returns-5 : tie.Need-returns-5
 unfolding airframeNumber
 returns-5 c =
     let s = c .before .before in
-    simp (c .vecs-number .ensures, lt-ltb _ _ (c .before .if5 .taken), le-ltb _ _ (s .if4 .left), le-ltb _ _ (s .before .if3 .left), le-ltb _ _ (s .before .before .if2 .left), le-ltb _ _ (s .before .before .before .if1 .left))
+    simp (
+      c .vecs-number .ensures,
+      lt-ltb _ _ (c .before .if5 .taken),
+      le-ltb _ _ (s .if4 .left),
+      le-ltb _ _ (s .before .if3 .left),
+      le-ltb _ _ (s .before .before .if2 .left),
+      le-ltb _ _ (s .before .before .before .if1 .left),
+    )
 
 vecs-number-requires-2 : tie.Need-vecs-number-requires-2
 vecs-number-requires-2 c κs = search needs
@@ -53,7 +72,15 @@ unfolding airframeNumber
 returns-6 c =
     let s = c .before .before in
     let r = s .before .before in
-    simp (c .vecs-number2 .ensures, lt-ltb _ _ (c .before .if6 .taken), le-ltb _ _ (s .if5 .left), le-ltb _ _ (s .before .if4 .left), le-ltb _ _ (r .if3 .left), le-ltb _ _ (r .before .if2 .left), le-ltb _ _ (r .before .before .if1 .left))
+    simp (
+      c .vecs-number2 .ensures,
+      lt-ltb _ _ (c .before .if6 .taken),
+      le-ltb _ _ (s .if5 .left),
+      le-ltb _ _ (s .before .if4 .left),
+      le-ltb _ _ (r .if3 .left),
+      le-ltb _ _ (r .before .if2 .left),
+      le-ltb _ _ (r .before .before .if1 .left),
+    )
 
 lift-number-requires : tie.Need-lift-number-requires
 lift-number-requires c κs = (omega arith, omega arith)
@@ -63,13 +90,21 @@ unfolding airframeNumber
 returns-7 c =
     let s = c .before .before in
     let r = s .before .before in
-    simp (c .lift-number .ensures, le-ltb _ _ (c .before .if6 .left), le-ltb _ _ (s .if5 .left), le-ltb _ _ (s .before .if4 .left), le-ltb _ _ (r .if3 .left), le-ltb _ _ (r .before .if2 .left), le-ltb _ _ (r .before .before .if1 .left))
+    simp (
+      c .lift-number .ensures,
+      le-ltb _ _ (c .before .if6 .left),
+      le-ltb _ _ (s .if5 .left),
+      le-ltb _ _ (s .before .if4 .left),
+      le-ltb _ _ (r .if3 .left),
+      le-ltb _ _ (r .before .if2 .left),
+      le-ltb _ _ (r .before .before .if1 .left),
+    )
 
 pub airframe-number-spec : {M : Type 1} → statement M
 airframe-number-spec =
     tie.close
     (tie.spec
-    place-number-requires
+    number-in-requires
     returns
     kind-number-requires
     returns-2

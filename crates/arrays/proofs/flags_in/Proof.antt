@@ -39,7 +39,9 @@ loop-less : tie.Need-loop-less Inv-loop μ-loop
 loop-less c = search needs
 
 loop-again : tie.Need-loop-again Inv-loop μ-loop
-loop-again c = let s = c .before .before .before in fill-more false _ _ (s .loop .flags) (s .loop .k) (c .is-set .result) (c .is-set .ensures) (c .before .before .loop-test .taken) (s .loop .inv)
+loop-again c =
+    let s = c .before .before .before in fill-more false _ _ (s .loop .flags) (s .loop .k) (c .is-set .result) (c .is-set .ensures)
+    (c .before .before .loop-test .taken) (s .loop .inv)
 
 returns : tie.Need-returns Inv-loop μ-loop
 unfolding flagsIn

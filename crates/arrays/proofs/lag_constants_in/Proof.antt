@@ -2,7 +2,7 @@
 use Rattle.airframe.specs.Contracts.{lagConstantsOf}
 use Rattle.airframe.specs.FromNumbers.{airframeOf, modelOf}
 use Rattle.float.specs.Lists.{listFrom, listOf}
-use Rattle.arrays.specs.Airframe.{airframeIn, airframeWith, groupIn, placeAt, placesIn}
+use Rattle.arrays.specs.Airframe.{airframeIn, airframeWith, groupIn, numberAt, numbersIn}
 use borrow.Author.Needs.{needs}
 use Rattle.arrays.proofs.lag_constants_in.Statement.{statement}
 use Rattle.arrays.proofs.lag_constants_in.Tie as tie
@@ -23,7 +23,7 @@ shared-slice-read-t9 : tie.Need-shared-slice-read-t9
 shared-slice-read-t9 c = search needs
 
 returns : tie.Need-returns
-unfolding lagConstantsOf airframeIn airframeWith airframeOf groupIn modelOf placesIn placeAt listOf listFrom
+unfolding lagConstantsOf airframeIn airframeWith airframeOf groupIn modelOf numbersIn numberAt listOf listFrom
 returns c = simp (c .before .before .before .is-set .ensures)
 
 pub lag-constants-in-spec : {M : Type 1} → statement M

@@ -5,18 +5,18 @@ use borrow.Author.Needs.{needs}
 use Rattle.arrays.proofs.lift_number.Statement.{statement}
 use Rattle.arrays.proofs.lift_number.Tie as tie
 
-sub-place-number : tie.Need-sub-place-number
-sub-place-number c = search needs
+sub-number-in : tie.Need-sub-number-in
+sub-number-in c = search needs
 
-add-place-number : tie.Need-add-place-number
-add-place-number c = search needs
+add-number-in : tie.Need-add-number-in
+add-number-in c = search needs
 
-place-number-requires : tie.Need-place-number-requires
-place-number-requires c κs = search needs
+number-in-requires : tie.Need-number-in-requires
+number-in-requires c κs = search needs
 
 returns : tie.Need-returns
 unfolding liftNumber
-returns c = simp (c .place-number .ensures, lt-ltb _ _ (c .before .if1 .taken))
+returns c = simp (c .number-in .ensures, lt-ltb _ _ (c .before .if1 .taken))
 
 flag-number-requires : tie.Need-flag-number-requires
 flag-number-requires c κs = search needs
@@ -30,22 +30,34 @@ used-number-requires c κs = search needs
 
 returns-3 : tie.Need-returns-3
 unfolding liftNumber
-returns-3 c = simp (c .used-number .ensures, lt-ltb _ _ (c .before .if3 .taken), le-ltb _ _ (c .before .before .if2 .left), le-ltb _ _ (c .before .before .before .if1 .left))
+returns-3 c =
+    simp (
+      c .used-number .ensures,
+      lt-ltb _ _ (c .before .if3 .taken),
+      le-ltb _ _ (c .before .before .if2 .left),
+      le-ltb _ _ (c .before .before .before .if1 .left),
+    )
 
 vecs-number-requires : tie.Need-vecs-number-requires
 vecs-number-requires c κs = search needs
 
 returns-4 : tie.Need-returns-4
 unfolding liftNumber
-returns-4 c = simp (c .vecs-number .ensures, le-ltb _ _ (c .before .if3 .left), le-ltb _ _ (c .before .before .if2 .left), le-ltb _ _ (c .before .before .before .if1 .left))
+returns-4 c =
+    simp (
+      c .vecs-number .ensures,
+      le-ltb _ _ (c .before .if3 .left),
+      le-ltb _ _ (c .before .before .if2 .left),
+      le-ltb _ _ (c .before .before .before .if1 .left),
+    )
 
 pub lift-number-spec : {M : Type 1} → statement M
 lift-number-spec =
     tie.close
     (tie.spec
-    sub-place-number
-    add-place-number
-    place-number-requires
+    sub-number-in
+    add-number-in
+    number-in-requires
     returns
     flag-number-requires
     returns-2

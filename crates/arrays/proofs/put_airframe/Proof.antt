@@ -33,14 +33,18 @@ loop-less : tie.Need-loop-less Inv-loop μ-loop
 loop-less c = search needs
 
 loop-again : tie.Need-loop-again Inv-loop μ-loop
-loop-again c = let s = c .before .before in reach-more airframeNumbersCount nan _ _ (s .loop .xs) (s .loop .k) (c .airframe-number .result) (c .airframe-number .ensures) (c .before .loop-test .taken) (s .loop .inv)
+loop-again c =
+    let s = c .before .before in reach-more airframeNumbersCount nan _ _ (s .loop .xs) (s .loop .k) (c .airframe-number .result)
+    (c .airframe-number .ensures) (c .before .loop-test .taken) (s .loop .inv)
 
 same-length : tie.Need-same-length Inv-loop μ-loop
 same-length c = search needs
 
 returns : tie.Need-returns Inv-loop μ-loop
 unfolding airframeNumbers
-returns c = let s = c .before in reach-end airframeNumbersCount nan _ _ (s .loop .xs) (s .loop .k) (s .loop .inv) (λ k l m. absurd (omega (arith, l, m, c .loop-test .left)))
+returns c =
+    let s = c .before in reach-end airframeNumbersCount nan _ _ (s .loop .xs) (s .loop .k) (s .loop .inv)
+    (λ k l m. absurd (omega (arith, l, m, c .loop-test .left)))
 
 pub put-airframe-spec : {M : Type 1} → statement M
 put-airframe-spec =

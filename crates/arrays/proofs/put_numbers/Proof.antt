@@ -50,7 +50,8 @@ returns c =
     let s = c .before in
     let ns = s .before .args .numbers .now in
     reach-end (length ns) nan (λ (j : ℕ). at ns j) _ (s .loop .xs) (s .loop .i) (s .loop .inv) (λ k l m. absurd (omega (arith, l, m, c .loop-test .left)))
-    ∙ ext-getD nan _ ns (length-listOf _ _) (λ k b. listOf-at nan (λ (j : ℕ). at ns j) (length ns) k (omega (arith, b, length-listOf (λ (j : ℕ). at ns j) (length ns))))
+    ∙ ext-getD nan _ ns (length-listOf _ _) (λ k b. listOf-at nan (λ (j : ℕ). at ns j) (length ns) k
+    (omega (arith, b, length-listOf (λ (j : ℕ). at ns j) (length ns))))
 
 pub put-numbers-spec : {M : Type 1} → statement M
 put-numbers-spec =

@@ -1,14 +1,14 @@
 -- `arrays::refused_place` meets its contract. Assumes nothing.
 use mathlib.Core.Path.{_∙_, _≡_, sym}
 use Rattle.float.specs.Lists.{listFrom, listOf}
-use Rattle.arrays.proofs.Places.{array-refused, tests}
-use Rattle.arrays.specs.Airframe.{placeAt, placesIn}
+use Rattle.arrays.proofs.Numbers.{array-refused, tests}
+use Rattle.arrays.specs.Airframe.{numberAt, numbersIn}
 use borrow.Author.Needs.{needs}
 use Rattle.arrays.proofs.refused_place.Statement.{statement}
 use Rattle.arrays.proofs.refused_place.Tie as tie
 
-places-in-requires : tie.Need-places-in-requires
-places-in-requires c κs = search needs
+numbers-in-requires : tie.Need-numbers-in-requires
+numbers-in-requires c κs = search needs
 
 shared-slice-read-kind-of : tie.Need-shared-slice-read-kind-of
 shared-slice-read-kind-of c = search needs
@@ -47,7 +47,7 @@ first-refused-requires : tie.Need-first-refused-requires
 first-refused-requires c κs = search needs
 
 returns : tie.Need-returns
-unfolding placesIn placeAt listOf listFrom
+unfolding numbersIn numberAt listOf listFrom
 returns c =
     let r = c .before .before in
     let p = r .before in
@@ -57,14 +57,25 @@ returns c =
     let f = s .before .before in
     let k = f .before .before in
     let xs = k .before .before .before .before .args .xs .now in
-    let e : c .first-refused .result ≡ tests xs (placesIn xs) = simp (c .first-refused .ensures, r .lift-torques-outside .ensures, p .is-set2 .ensures, w .vecs-in2 .ensures, t .vecs-in .ensures, s .is-set .ensures, f .falloff-of .ensures, k .kind-of .ensures, k .before .before .places-in .ensures) in
+    let e : c .first-refused .result ≡ tests xs (numbersIn xs) =
+    simp (
+      c .first-refused .ensures,
+      r .lift-torques-outside .ensures,
+      p .is-set2 .ensures,
+      w .vecs-in2 .ensures,
+      t .vecs-in .ensures,
+      s .is-set .ensures,
+      f .falloff-of .ensures,
+      k .kind-of .ensures,
+      k .before .before .numbers-in .ensures,
+    ) in
     e ∙ sym (array-refused xs)
 
 pub refused-place-spec : {M : Type 1} → statement M
 refused-place-spec =
     tie.close
     (tie.spec
-    places-in-requires
+    numbers-in-requires
     shared-slice-read-kind-of
     kind-of-requires
     shared-slice-read-falloff-of

@@ -44,7 +44,9 @@ loop-less : tie.Need-loop-less Inv-loop μ-loop
 loop-less c = search needs
 
 loop-again : tie.Need-loop-again Inv-loop μ-loop
-loop-again c = let s = c .before .before in fill-more (vec nan nan nan) _ _ (s .loop .vecs) (s .loop .k) (c .vec-in .result) (c .vec-in .ensures) (c .before .loop-test .taken) (s .loop .inv)
+loop-again c =
+    let s = c .before .before in fill-more (vec nan nan nan) _ _ (s .loop .vecs) (s .loop .k) (c .vec-in .result) (c .vec-in .ensures)
+    (c .before .loop-test .taken) (s .loop .inv)
 
 returns : tie.Need-returns Inv-loop μ-loop
 unfolding vecsIn

@@ -22,10 +22,14 @@ pair-by-requires : tie.Need-pair-by-requires
 pair-by-requires c κs = search needs
 
 put-end-requires : tie.Need-put-end-requires
-put-end-requires c κs = pair-fits _ _ (sym (c .before .before .before .before .before .before .before .before .pair-fits .ensures) ∙ c .before .before .before .before .before .before .before .if1 .taken) .0
+put-end-requires c κs =
+    pair-fits _ _ (sym (c .before .before .before .before .before .before .before .before .pair-fits .ensures)
+    ∙ c .before .before .before .before .before .before .before .if1 .taken) .0
 
 put-end-requires-2 : tie.Need-put-end-requires-2
-put-end-requires-2 c κs = pair-fits _ _ (sym (c .before .before .before .before .before .before .before .before .before .before .before .before .pair-fits .ensures) ∙ c .before .before .before .before .before .before .before .before .before .before .before .if1 .taken) .1
+put-end-requires-2 c κs =
+    pair-fits _ _ (sym (c .before .before .before .before .before .before .before .before .before .before .before .before .pair-fits .ensures)
+    ∙ c .before .before .before .before .before .before .before .before .before .before .before .if1 .taken) .1
 
 reply-requires : tie.Need-reply-requires
 reply-requires c κs = search needs
@@ -46,8 +50,16 @@ returns c =
     let i = p .before .before .before .before in
     let e = sym (i .before .pair-fits .ensures) ∙ i .if1 .taken in
     let one = c .before .before .before .before .before .before .before .put-end .ensures in
-    let two = c .before .before .before .put-end2 .ensures in
-    ((simp (c .reply .ensures, q .first, x, f, e), simp (one, q .first, x, f, e), simp (two, q .second, x, f, e), simp (q .first, x, f, e), simp (q .second, x, f, e)), λ z. pair-mirrors _ _ _ _ _ _ _ _ _ x f q one two (sym (c .reply .ensures) ∙ z))
+    let two = c .before .before .before .put-end2 .ensures in (
+      (
+        simp (c .reply .ensures, q .first, x, f, e),
+        simp (one, q .first, x, f, e),
+        simp (two, q .second, x, f, e),
+        simp (q .first, x, f, e),
+        simp (q .second, x, f, e),
+      ),
+      λ z. pair-mirrors _ _ _ _ _ _ _ _ _ x f q one two (sym (c .reply .ensures) ∙ z),
+    )
 
 returns-2 : tie.Need-returns-2
 unfolding mirroredPair

@@ -23,7 +23,18 @@ same-length c = search needs
 
 returns-2 : tie.Need-returns-2
 unfolding readTick
-returns-2 c = (simp (c .reply .ensures, c .before .before .before .before .before .read-tick-block .ensures, eq-eqb _ _ (c .before .before .before .before .before .before .if1 .left)), simp (c .before .before .before .put-tick .ensures, c .before .before .before .before .before .read-tick-block .ensures, eq-eqb _ _ (c .before .before .before .before .before .before .if1 .left)))
+returns-2 c = (
+  simp (
+    c .reply .ensures,
+    c .before .before .before .before .before .read-tick-block .ensures,
+    eq-eqb _ _ (c .before .before .before .before .before .before .if1 .left),
+  ),
+  simp (
+    c .before .before .before .put-tick .ensures,
+    c .before .before .before .before .before .read-tick-block .ensures,
+    eq-eqb _ _ (c .before .before .before .before .before .before .if1 .left),
+  ),
+)
 
 pub bench-read-tick-spec : {M : Type 1} → statement M
 bench-read-tick-spec =

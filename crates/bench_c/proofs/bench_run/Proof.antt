@@ -11,8 +11,8 @@ flight-in-requires c κs = search needs
 read-airframe-requires : tie.Need-read-airframe-requires
 read-airframe-requires c κs = search needs
 
-ran-by-requires : tie.Need-ran-by-requires
-ran-by-requires c κs = search needs
+run-by-requires : tie.Need-run-by-requires
+run-by-requires c κs = search needs
 
 put-end-requires : tie.Need-put-end-requires
 put-end-requires c κs = search needs
@@ -28,9 +28,9 @@ unfolding run
 returns c =
     let r = c .before .before .before .before .before in
     let l = eq-eqb _ _ (r .before .before .before .before .if1 .taken) in (
-      simp (c .reply .ensures, r .ran-by .ensures, r .before .read-airframe .ensures, r .before .before .flight-in .ensures, l),
-      simp (c .before .before .before .put-end .ensures, r .ran-by .ensures, r .before .read-airframe .ensures, r .before .before .flight-in .ensures, l),
-      simp (r .ran-by .ensures, r .before .read-airframe .ensures, r .before .before .flight-in .ensures, l),
+      simp (c .reply .ensures, r .run-by .ensures, r .before .read-airframe .ensures, r .before .before .flight-in .ensures, l),
+      simp (c .before .before .before .put-end .ensures, r .run-by .ensures, r .before .read-airframe .ensures, r .before .before .flight-in .ensures, l),
+      simp (r .run-by .ensures, r .before .read-airframe .ensures, r .before .before .flight-in .ensures, l),
     )
 
 returns-2 : tie.Need-returns-2
@@ -43,7 +43,7 @@ bench-run-spec =
     (tie.spec
     flight-in-requires
     read-airframe-requires
-    ran-by-requires
+    run-by-requires
     put-end-requires
     reply-requires
     same-length

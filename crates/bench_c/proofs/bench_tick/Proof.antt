@@ -23,7 +23,12 @@ ticked-by-requires : tie.Need-ticked-by-requires
 ticked-by-requires c κs = search needs
 
 handed-back-requires : tie.Need-handed-back-requires
-handed-back-requires c κs = (arrays-fit _ _ _ (sym (c .before .before .before .before .before .before .before .before .arrays-fit .ensures) ∙ c .before .before .before .before .before .before .before .if1 .taken) .0, arrays-fit _ _ _ (sym (c .before .before .before .before .before .before .before .before .arrays-fit .ensures) ∙ c .before .before .before .before .before .before .before .if1 .taken) .1 .1)
+handed-back-requires c κs = (
+  arrays-fit _ _ _ (sym (c .before .before .before .before .before .before .before .before .arrays-fit .ensures)
+      ∙ c .before .before .before .before .before .before .before .if1 .taken) .0,
+  arrays-fit _ _ _ (sym (c .before .before .before .before .before .before .before .before .arrays-fit .ensures)
+      ∙ c .before .before .before .before .before .before .before .if1 .taken) .1 .1,
+)
 
 same-length : tie.Need-same-length
 same-length c = search needs
@@ -38,9 +43,30 @@ returns c =
     let t = h .before .before .before in
     let i = t .before .before .before .before .before in
     let e = sym (i .before .arrays-fit .ensures) ∙ i .if1 .taken in (
-      simp (h .handed-back .ensures .0, t .ticked-by .ensures, t .before .read-airframe .ensures, t .before .before .tick-in .ensures, t .before .before .before .flight-in .ensures, e),
-      simp (h .handed-back .ensures .1, t .ticked-by .ensures, t .before .read-airframe .ensures, t .before .before .tick-in .ensures, t .before .before .before .flight-in .ensures, e),
-      simp (h .handed-back .ensures .2, t .ticked-by .ensures, t .before .read-airframe .ensures, t .before .before .tick-in .ensures, t .before .before .before .flight-in .ensures, e),
+      simp (
+        h .handed-back .ensures .0,
+        t .ticked-by .ensures,
+        t .before .read-airframe .ensures,
+        t .before .before .tick-in .ensures,
+        t .before .before .before .flight-in .ensures,
+        e,
+      ),
+      simp (
+        h .handed-back .ensures .1,
+        t .ticked-by .ensures,
+        t .before .read-airframe .ensures,
+        t .before .before .tick-in .ensures,
+        t .before .before .before .flight-in .ensures,
+        e,
+      ),
+      simp (
+        h .handed-back .ensures .2,
+        t .ticked-by .ensures,
+        t .before .read-airframe .ensures,
+        t .before .before .tick-in .ensures,
+        t .before .before .before .flight-in .ensures,
+        e,
+      ),
     )
 
 returns-2 : tie.Need-returns-2

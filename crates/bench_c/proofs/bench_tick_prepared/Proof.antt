@@ -21,7 +21,12 @@ ticked-prepared-requires : tie.Need-ticked-prepared-requires
 ticked-prepared-requires c κs = search needs
 
 handed-back-requires : tie.Need-handed-back-requires
-handed-back-requires c κs = (arrays-fit _ _ _ (sym (c .before .before .before .before .before .before .before .arrays-fit .ensures) ∙ c .before .before .before .before .before .before .if2 .taken) .0, arrays-fit _ _ _ (sym (c .before .before .before .before .before .before .before .arrays-fit .ensures) ∙ c .before .before .before .before .before .before .if2 .taken) .1 .1)
+handed-back-requires c κs = (
+  arrays-fit _ _ _ (sym (c .before .before .before .before .before .before .before .arrays-fit .ensures)
+      ∙ c .before .before .before .before .before .before .if2 .taken) .0,
+  arrays-fit _ _ _ (sym (c .before .before .before .before .before .before .before .arrays-fit .ensures)
+      ∙ c .before .before .before .before .before .before .if2 .taken) .1 .1,
+)
 
 same-length : tie.Need-same-length
 same-length c = search needs

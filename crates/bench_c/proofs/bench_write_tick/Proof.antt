@@ -23,7 +23,18 @@ same-length c = search needs
 
 returns-2 : tie.Need-returns-2
 unfolding writeTick
-returns-2 c = (simp (c .reply .ensures, c .before .before .before .write-tick .ensures .1, eq-eqb _ _ (c .before .before .before .before .before .before .if1 .left)), simp (c .before .before .before .write-tick .ensures .0, c .before .before .before .before .tick-in .ensures, eq-eqb _ _ (c .before .before .before .before .before .before .if1 .left)))
+returns-2 c = (
+  simp (
+    c .reply .ensures,
+    c .before .before .before .write-tick .ensures .1,
+    eq-eqb _ _ (c .before .before .before .before .before .before .if1 .left),
+  ),
+  simp (
+    c .before .before .before .write-tick .ensures .0,
+    c .before .before .before .before .tick-in .ensures,
+    eq-eqb _ _ (c .before .before .before .before .before .before .if1 .left),
+  ),
+)
 
 pub bench-write-tick-spec : {M : Type 1} → statement M
 bench-write-tick-spec =

@@ -3,7 +3,7 @@ use mathlib.Core.Path.{_∙_, sym}
 use borrow.Author.Tests.{eqb-false}
 use native.Mathlib.Nat.{suc-ne-zero}
 use Rattle.bench_c.proofs.Pair.{ended-mirror, ended-number}
-use Rattle.bench_c.specs.Library.{ranBy, reflectedBy}
+use Rattle.bench_c.specs.Library.{runResultBy, reflectedBy}
 use borrow.Author.Needs.{needs}
 use Rattle.bench_c.proofs.pair_by.Statement.{statement}
 use Rattle.bench_c.proofs.pair_by.Tie as tie
@@ -18,7 +18,7 @@ mirrored-pair-requires : tie.Need-mirrored-pair-requires
 mirrored-pair-requires c κs = search needs
 
 returns : tie.Need-returns
-unfolding ranBy reflectedBy
+unfolding runResultBy reflectedBy
 returns c =
     let k = c .before .before .before in
     let d = sym (c .before .before .is-done .ensures) ∙ c .before .if2 .taken in
@@ -30,23 +30,33 @@ ended-pair-requires : tie.Need-ended-pair-requires
 ended-pair-requires c κs = search needs
 
 returns-2 : tie.Need-returns-2
-unfolding ranBy reflectedBy
+unfolding runResultBy reflectedBy
 returns-2 c =
     let k = c .before .before .before in
     let d = sym (c .before .before .is-done .ensures) ∙ c .before .if2 .left in
     let w = sym (k .before .is-whole .ensures) ∙ k .if1 .taken in
     let p = c .ended-pair .ensures in
-    record { first = p .0 ∙ simp (d, w); second = p .1 ∙ simp (d, w); ends = ended-mirror _ _ _ (p .0) (p .1); theorem = λ z. absurd (eqb-false _ _ d (ended-number _ _ _ (p .0) z)) }
+    record {
+      first = p .0 ∙ simp (d, w);
+      second = p .1 ∙ simp (d, w);
+      ends = ended-mirror _ _ _ (p .0) (p .1);
+      theorem = λ z. absurd (eqb-false _ _ d (ended-number _ _ _ (p .0) z));
+    }
 
 ended-pair-requires-2 : tie.Need-ended-pair-requires-2
 ended-pair-requires-2 c κs = search needs
 
 returns-3 : tie.Need-returns-3
-unfolding ranBy reflectedBy
+unfolding runResultBy reflectedBy
 returns-3 c =
     let w = sym (c .before .before .is-whole .ensures) ∙ c .before .if1 .left in
     let p = c .ended-pair2 .ensures in
-    record { first = p .0 ∙ simp w; second = p .1 ∙ simp w; ends = ended-mirror _ _ _ (p .0) (p .1); theorem = λ z. absurd (suc-ne-zero 0 (ended-number _ _ _ (p .0) z)) }
+    record {
+      first = p .0 ∙ simp w;
+      second = p .1 ∙ simp w;
+      ends = ended-mirror _ _ _ (p .0) (p .1);
+      theorem = λ z. absurd (suc-ne-zero 0 (ended-number _ _ _ (p .0) z));
+    }
 
 pub pair-by-spec : {M : Type 1} → statement M
 pair-by-spec =

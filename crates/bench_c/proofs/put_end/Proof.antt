@@ -16,7 +16,11 @@ same-length c = search needs
 
 returns : tie.Need-returns
 unfolding stateAfterRun
-returns c = simp (c .before .before .put-flight .ensures, sym (c .before .before .before .before .before .is-done .ensures) ∙ c .before .before .before .before .if1 .taken)
+returns c =
+    simp (
+      c .before .before .put-flight .ensures,
+      sym (c .before .before .before .before .before .is-done .ensures) ∙ c .before .before .before .before .if1 .taken,
+    )
 
 returns-2 : tie.Need-returns-2
 unfolding stateAfterRun

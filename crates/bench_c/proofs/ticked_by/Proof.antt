@@ -8,12 +8,12 @@ use Rattle.bench_c.proofs.ticked_by.Tie as tie
 is-done-requires : tie.Need-is-done-requires
 is-done-requires c κs = search needs
 
-tick-lent-requires : tie.Need-tick-lent-requires
-tick-lent-requires c κs = search needs
+tick-by-reference-requires : tie.Need-tick-by-reference-requires
+tick-by-reference-requires c κs = search needs
 
 returns : tie.Need-returns
 unfolding tickedBy
-returns c = simp (c .tick-lent .ensures, sym (c .before .before .is-done .ensures) ∙ c .before .if1 .taken)
+returns c = simp (c .tick-by-reference .ensures, sym (c .before .before .is-done .ensures) ∙ c .before .if1 .taken)
 
 refused-requires : tie.Need-refused-requires
 refused-requires c κs = search needs
@@ -24,4 +24,4 @@ returns-2 c = simp (c .refused .ensures, sym (c .before .before .is-done .ensure
 
 pub ticked-by-spec : {M : Type 1} → statement M
 ticked-by-spec =
-    tie.close (tie.spec is-done-requires tick-lent-requires returns refused-requires returns-2)
+    tie.close (tie.spec is-done-requires tick-by-reference-requires returns refused-requires returns-2)

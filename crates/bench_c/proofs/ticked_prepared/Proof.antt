@@ -17,8 +17,8 @@ powers-of-two-requires c κs = search needs
 lag-constants-in-requires : tie.Need-lag-constants-in-requires
 lag-constants-in-requires c κs = search needs
 
-begin-by-requires : tie.Need-begin-by-requires
-begin-by-requires c κs = search needs
+lag-factors-from-requires : tie.Need-lag-factors-from-requires
+lag-factors-from-requires c κs = search needs
 
 airframe-in-requires : tie.Need-airframe-in-requires
 airframe-in-requires c κs = search needs
@@ -33,7 +33,7 @@ tick-accepted-requires c κs =
     let t = b .before .before in
     let a = d .before .airframe-in .ensures in (
       ap refusedPlace a ∙ sym (t .before .before .before .refused-place .ensures) ∙ t .before .before .if1 .taken,
-      (simp (b .begin-by .ensures, t .lag-constants-in .ensures, a), (t .before .powers-of-two .ensures, d .densities .ensures)),
+      (simp (b .lag-factors-from .ensures, t .lag-constants-in .ensures, a), (t .before .powers-of-two .ensures, d .densities .ensures)),
     )
 
 returns : tie.Need-returns
@@ -44,7 +44,12 @@ refused-requires c κs = search needs
 
 returns-2 : tie.Need-returns-2
 unfolding tickOf tickWith
-returns-2 c = simp (c .refused .ensures, c .before .before .refused-place .ensures, some-eqb _ (λ e. c .before .if1 .left (c .before .before .refused-place .ensures ∙ e)))
+returns-2 c =
+    simp (
+      c .refused .ensures,
+      c .before .before .refused-place .ensures,
+      some-eqb _ (λ e. c .before .if1 .left (c .before .before .refused-place .ensures ∙ e)),
+    )
 
 pub ticked-prepared-spec : {M : Type 1} → statement M
 ticked-prepared-spec =
@@ -53,7 +58,7 @@ ticked-prepared-spec =
     refused-place-requires
     powers-of-two-requires
     lag-constants-in-requires
-    begin-by-requires
+    lag-factors-from-requires
     airframe-in-requires
     densities-requires
     tick-accepted-requires

@@ -18,7 +18,13 @@ renormalize-fast-requires c κs = search needs
 
 returns : tie.Need-returns
 unfolding nextAttitude
-returns c = simp (c .renormalize-fast .ensures, c .before .times .ensures, c .before .before .from-scaled-axis .ensures, c .before .before .before .scale .ensures)
+returns c =
+    simp (
+      c .renormalize-fast .ensures,
+      c .before .times .ensures,
+      c .before .before .from-scaled-axis .ensures,
+      c .before .before .before .scale .ensures,
+    )
 
 pub next-attitude-spec : {M : Type 1} → statement M
 next-attitude-spec =

@@ -14,11 +14,25 @@ inside-requires c κs = search needs
 
 returns : tie.Need-returns
 unfolding attitudeOutside ofBits round
-returns c = (simp (simp (c .before .inside .ensures, c .before .before .norm-squared .ensures) at (c .if1 .taken), c .before .inside .ensures, c .before .before .norm-squared .ensures), search needs)
+returns c = (
+  simp (
+    simp (c .before .inside .ensures, c .before .before .norm-squared .ensures) at (c .if1 .taken),
+    c .before .inside .ensures,
+    c .before .before .norm-squared .ensures,
+  ),
+  search needs,
+)
 
 returns-2 : tie.Need-returns-2
 unfolding attitudeOutside ofBits round
-returns-2 c = (simp (simp (c .before .inside .ensures, c .before .before .norm-squared .ensures) at (c .if1 .left), c .before .inside .ensures, c .before .before .norm-squared .ensures), search needs)
+returns-2 c = (
+  simp (
+    simp (c .before .inside .ensures, c .before .before .norm-squared .ensures) at (c .if1 .left),
+    c .before .inside .ensures,
+    c .before .before .norm-squared .ensures,
+  ),
+  search needs,
+)
 
 pub attitude-outside-spec : {M : Type 1} → statement M
 attitude-outside-spec =

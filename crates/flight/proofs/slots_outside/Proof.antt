@@ -43,8 +43,11 @@ add-result c = search needs
 returns-2 : tie.Need-returns-2 Inv-loop μ-loop
 unfolding slotsOutside slotInside
 returns-2 c =
-    let s = c .before .before .before in
-    (sym (s .loop .inv .1 ∙ fail-here _ (s .loop .i) 8 (c .before .before .loop-test .taken) (sym (c .before .inside .ensures) ∙ not-true (c .if2 .taken))), omega (arith, c .before .before .loop-test .taken))
+    let s = c .before .before .before in (
+      sym (s .loop .inv .1 ∙ fail-here _ (s .loop .i) 8 (c .before .before .loop-test .taken)
+          (sym (c .before .inside .ensures) ∙ not-true (c .if2 .taken))),
+      omega (arith, c .before .before .loop-test .taken),
+    )
 
 add-i : tie.Need-add-i Inv-loop μ-loop
 add-i c = search needs
@@ -55,8 +58,11 @@ loop-less c = search needs
 loop-again : tie.Need-loop-again Inv-loop μ-loop
 unfolding slotInside
 loop-again c =
-    let s = c .before .before .before in
-    (search needs, s .loop .inv .1 ∙ fail-next _ (s .loop .i) 8 (c .before .before .loop-test .taken) (sym (c .before .inside .ensures) ∙ not-false (c .if2 .left)))
+    let s = c .before .before .before in (
+      search needs,
+      s .loop .inv .1 ∙ fail-next _ (s .loop .i) 8 (c .before .before .loop-test .taken)
+          (sym (c .before .inside .ensures) ∙ not-false (c .if2 .left)),
+    )
 
 returns-3 : tie.Need-returns-3 Inv-loop μ-loop
 unfolding slotsOutside

@@ -16,15 +16,45 @@ inside-requires-3 c κs = search needs
 
 returns : tie.Need-returns
 unfolding vecOutside
-returns c = (simp (simp (c .before .inside3 .ensures, c .before .before .before .inside2 .ensures, c .before .before .before .before .before .inside .ensures) at (c .if3 .taken), c .before .inside3 .ensures, simp (c .before .before .before .inside2 .ensures, c .before .before .before .before .before .inside .ensures) at (c .before .before .if2 .taken), c .before .before .before .inside2 .ensures, simp (c .before .before .before .before .before .inside .ensures) at (c .before .before .before .before .if1 .taken), c .before .before .before .before .before .inside .ensures), search needs)
+returns c = (
+  simp (
+    simp (c .before .inside3 .ensures, c .before .before .before .inside2 .ensures, c .before .before .before .before .before .inside .ensures)
+        at (c .if3 .taken),
+    c .before .inside3 .ensures,
+    simp (c .before .before .before .inside2 .ensures, c .before .before .before .before .before .inside .ensures) at (c .before .before .if2 .taken),
+    c .before .before .before .inside2 .ensures,
+    simp (c .before .before .before .before .before .inside .ensures) at (c .before .before .before .before .if1 .taken),
+    c .before .before .before .before .before .inside .ensures,
+  ),
+  search needs,
+)
 
 returns-2 : tie.Need-returns-2
 unfolding vecOutside
-returns-2 c = (simp (simp (c .before .inside3 .ensures, c .before .before .before .inside2 .ensures, c .before .before .before .before .before .inside .ensures) at (c .if3 .left), c .before .inside3 .ensures, simp (c .before .before .before .inside2 .ensures, c .before .before .before .before .before .inside .ensures) at (c .before .before .if2 .taken), c .before .before .before .inside2 .ensures, simp (c .before .before .before .before .before .inside .ensures) at (c .before .before .before .before .if1 .taken), c .before .before .before .before .before .inside .ensures), search needs)
+returns-2 c = (
+  simp (
+    simp (c .before .inside3 .ensures, c .before .before .before .inside2 .ensures, c .before .before .before .before .before .inside .ensures)
+        at (c .if3 .left),
+    c .before .inside3 .ensures,
+    simp (c .before .before .before .inside2 .ensures, c .before .before .before .before .before .inside .ensures) at (c .before .before .if2 .taken),
+    c .before .before .before .inside2 .ensures,
+    simp (c .before .before .before .before .before .inside .ensures) at (c .before .before .before .before .if1 .taken),
+    c .before .before .before .before .before .inside .ensures,
+  ),
+  search needs,
+)
 
 returns-3 : tie.Need-returns-3
 unfolding vecOutside
-returns-3 c = (simp (simp (c .before .inside2 .ensures, c .before .before .before .inside .ensures) at (c .if2 .left), c .before .inside2 .ensures, simp (c .before .before .before .inside .ensures) at (c .before .before .if1 .taken), c .before .before .before .inside .ensures), search needs)
+returns-3 c = (
+  simp (
+    simp (c .before .inside2 .ensures, c .before .before .before .inside .ensures) at (c .if2 .left),
+    c .before .inside2 .ensures,
+    simp (c .before .before .before .inside .ensures) at (c .before .before .if1 .taken),
+    c .before .before .before .inside .ensures,
+  ),
+  search needs,
+)
 
 returns-4 : tie.Need-returns-4
 unfolding vecOutside

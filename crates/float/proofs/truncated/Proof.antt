@@ -22,7 +22,9 @@ wider z h = record { sfits = omega (arith, h .sfits) }
 
 -- what the machine reads back of the callee's result
 back : (c : tie.After-truncating-f32-to-i64) → toZ w64 (ofZ w64 (c .truncating-f32-to-i64 .result)) ≡ toSigned 63 (c .before .args .x)
-back c = ap (λ (z : ℤ). toZ w64 (ofZ w64 z)) (c .truncating-f32-to-i64 .ensures) ∙ toZ-ofZ w64 (toSigned 63 (c .before .args .x)) (wider (toSigned 63 (c .before .args .x)) (of (c .before) .fits))
+back c =
+    ap (λ (z : ℤ). toZ w64 (ofZ w64 z)) (c .truncating-f32-to-i64 .ensures)
+    ∙ toZ-ofZ w64 (toSigned 63 (c .before .args .x)) (wider (toSigned 63 (c .before .args .x)) (of (c .before) .fits))
 
 returns : tie.Need-returns
 returns c = (back c, subst (λ (z : ℤ). T (inFloat binary32 z)) (sym (back c)) (of (c .before) .whole))

@@ -12,7 +12,8 @@ use Rattle.float.proofs.whole_part.Statement.{statement}
 use Rattle.float.proofs.whole_part.Tie as tie
 
 -- `wholePart` by the answers of its two tests
-part : (x : Float) (a b : Bool) → lt (fin true 1 (pos 24)) x ≡ a → lt x (fin false 1 (pos 24)) ≡ b → wholePart x ≡ cond (a && b) (ofInt binary32 (toSigned 63 x)) (fin false 0 (pos 0))
+part : (x : Float) (a b : Bool) → lt (fin true 1 (pos 24)) x ≡ a → lt x (fin false 1 (pos 24)) ≡ b
+    → wholePart x ≡ cond (a && b) (ofInt binary32 (toSigned 63 x)) (fin false 0 (pos 0))
 unfolding wholePart
 part x a b p q = cc
 

@@ -5,14 +5,15 @@ use mathlib.Core.Path.{sym}
 use native.Mathlib.Omega.{arith}
 use borrow.Author.Needs.{needs}
 use borrow.Table.Elements.{length-take-le}
+use Rattle.lines.specs.Page.{pageBytes}
 use Rattle.fly.proofs.fly.Statement.{statement}
 use Rattle.fly.proofs.fly.Tie as tie
 
 abbrev Inv-loop : tie.InvT-loop
-Inv-loop a input name ticks₀ out₀ p₀ turns₀ t12 ticks out p turns = input .named ≤ 65536
+Inv-loop a input name ticks₀ out₀ p₀ rounds₀ t12 ticks out p rounds = input .named ≤ pageBytes
 
 abbrev μ-loop : tie.MeasureT-loop
-μ-loop a input name ticks₀ out₀ p₀ turns₀ t12 ticks out p turns = turns
+μ-loop a input name ticks₀ out₀ p₀ rounds₀ t12 ticks out p rounds = rounds
 
 large-buffer-requires : tie.Need-large-buffer-requires Inv-loop μ-loop
 large-buffer-requires c κs = search needs
@@ -43,11 +44,11 @@ fly-ticks-requires c κs = simp length-take (omega (arith, c .before .before .re
 put-end-requires : tie.Need-put-end-requires Inv-loop μ-loop
 put-end-requires c κs = search needs
 
-slice-aggregate-turn : tie.Need-slice-aggregate-turn Inv-loop μ-loop
-slice-aggregate-turn c = search needs
+slice-aggregate-flush : tie.Need-slice-aggregate-flush Inv-loop μ-loop
+slice-aggregate-flush c = search needs
 
-turn-requires : tie.Need-turn-requires Inv-loop μ-loop
-turn-requires c κs = search needs
+flush-requires : tie.Need-flush-requires Inv-loop μ-loop
+flush-requires c κs = search needs
 
 returns : tie.Need-returns Inv-loop μ-loop
 returns c = search needs
@@ -55,8 +56,8 @@ returns c = search needs
 returns-2 : tie.Need-returns-2 Inv-loop μ-loop
 returns-2 c = search needs
 
-sub-turns : tie.Need-sub-turns Inv-loop μ-loop
-sub-turns c = search needs
+sub-rounds : tie.Need-sub-rounds Inv-loop μ-loop
+sub-rounds c = search needs
 
 loop-less : tie.Need-loop-less Inv-loop μ-loop
 loop-less c = search needs
@@ -82,11 +83,11 @@ fly-spec =
     slice-aggregate-fly-ticks
     fly-ticks-requires
     put-end-requires
-    slice-aggregate-turn
-    turn-requires
+    slice-aggregate-flush
+    flush-requires
     returns
     returns-2
-    sub-turns
+    sub-rounds
     loop-less
     loop-again
     returns-3)

@@ -1,5 +1,6 @@
 -- `mirror::main` meets its contract: what it flies is accepted. Assumes nothing.
-use native.Mathlib.Omega.{arith}
+use mathlib.Core.Path.{_∙_, sym}
+use borrow.Author.Tests.{eqb-true}
 use borrow.Author.Needs.{needs}
 use Rattle.lines.proofs.Openings.{opened-ready}
 use Rattle.mirror.proofs.main.Statement.{statement}
@@ -23,15 +24,15 @@ slice-aggregate-open c = search needs
 open-requires : tie.Need-open-requires
 open-requires c κs = search needs
 
-number-requires : tie.Need-number-requires
-number-requires c κs = search needs
+is-done-requires : tie.Need-is-done-requires
+is-done-requires c κs = search needs
 
 fly-requires : tie.Need-fly-requires
 fly-requires c κs =
     let n = c .before .before in
     let o = n .before in
     let i = o .before .before .before .before .before .before in
-    (opened-ready (o .«open» .result) (o .«open» .ensures) (omega (arith, n .number .ensures, c .before .if2 .taken)), i .open-input .ensures)
+    (opened-ready (o .«open» .result) (o .«open» .ensures) (eqb-true _ _ (sym (n .is-done .ensures) ∙ c .before .if2 .taken)), i .open-input .ensures)
 
 returns-2 : tie.Need-returns-2
 returns-2 c = search needs
@@ -49,7 +50,7 @@ main-spec =
     returns
     slice-aggregate-open
     open-requires
-    number-requires
+    is-done-requires
     fly-requires
     returns-2
     returns-3)

@@ -53,7 +53,8 @@ returns : tie.Need-returns Inv-loop μ-loop
 unfolding reflectAxes
 returns c =
     let s = c .before in
-    fill-end (vec nan nan nan) _ _ (s .loop .out) (s .loop .i) (c .loop-test .left) (s .loop .inv) ∙ map-slots (vec nan nan nan) reflectAxis (s .before .args .axes) (search needs)
+    fill-end (vec nan nan nan) _ _ (s .loop .out) (s .loop .i) (c .loop-test .left) (s .loop .inv)
+    ∙ map-slots (vec nan nan nan) reflectAxis (s .before .args .axes) (search needs)
 
 pub reflected-axes-spec : {M : Type 1} → statement M
 reflected-axes-spec =

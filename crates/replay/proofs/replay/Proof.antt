@@ -1,14 +1,15 @@
 -- `replay::replay` meets its contract. Assumes nothing.
 use Prim.Native.Nat.{_≤_}
 use borrow.Author.Needs.{needs}
+use Rattle.lines.specs.Page.{pageBytes}
 use Rattle.replay.proofs.replay.Statement.{statement}
 use Rattle.replay.proofs.replay.Tie as tie
 
 abbrev Inv-loop : tie.InvT-loop
-Inv-loop list fd buf₀ s₀ t₀ turns₀ buf s t turns = (s .at ≤ s .end) × (s .end ≤ 65536)
+Inv-loop list fd buf₀ s₀ t₀ rounds₀ buf s t rounds = (s .at ≤ s .end) × (s .end ≤ pageBytes)
 
 abbrev μ-loop : tie.MeasureT-loop
-μ-loop list fd buf₀ s₀ t₀ turns₀ buf s t turns = turns
+μ-loop list fd buf₀ s₀ t₀ rounds₀ buf s t rounds = rounds
 
 loop-holds : tie.Need-loop-holds Inv-loop μ-loop
 loop-holds c = search needs
@@ -28,8 +29,8 @@ take-requires c κs = search needs
 past-requires : tie.Need-past-requires Inv-loop μ-loop
 past-requires c κs = search needs
 
-sub-turns : tie.Need-sub-turns Inv-loop μ-loop
-sub-turns c = search needs
+sub-rounds : tie.Need-sub-rounds Inv-loop μ-loop
+sub-rounds c = search needs
 
 loop-less : tie.Need-loop-less Inv-loop μ-loop
 loop-less c = search needs
@@ -52,7 +53,7 @@ replay-spec =
     line-end-requires
     take-requires
     past-requires
-    sub-turns
+    sub-rounds
     loop-less
     loop-again
     returns-2)

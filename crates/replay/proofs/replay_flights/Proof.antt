@@ -1,14 +1,15 @@
 -- `replay::replay_flights` meets its contract. Assumes nothing.
 use Prim.Native.Nat.{_≤_}
 use borrow.Author.Needs.{needs}
+use Rattle.lines.specs.Page.{pageBytes}
 use Rattle.replay.proofs.replay_flights.Statement.{statement}
 use Rattle.replay.proofs.replay_flights.Tie as tie
 
 abbrev Inv-loop : tie.InvT-loop
-Inv-loop fd buf₀ bytes₀ out₀ s₀ w₀ turns₀ buf bytes out s w turns = (s .at ≤ s .end) × (s .end ≤ 65536) × (w .page .at ≤ 65536)
+Inv-loop fd buf₀ bytes₀ out₀ s₀ w₀ rounds₀ buf bytes out s w rounds = (s .at ≤ s .end) × (s .end ≤ pageBytes) × (w .page .at ≤ pageBytes)
 
 abbrev μ-loop : tie.MeasureT-loop
-μ-loop fd buf₀ bytes₀ out₀ s₀ w₀ turns₀ buf bytes out s w turns = turns
+μ-loop fd buf₀ bytes₀ out₀ s₀ w₀ rounds₀ buf bytes out s w rounds = rounds
 
 buffer-requires : tie.Need-buffer-requires Inv-loop μ-loop
 buffer-requires c κs = search needs
@@ -40,8 +41,8 @@ take-requires c κs = search needs
 past-requires : tie.Need-past-requires Inv-loop μ-loop
 past-requires c κs = search needs
 
-sub-turns : tie.Need-sub-turns Inv-loop μ-loop
-sub-turns c = search needs
+sub-rounds : tie.Need-sub-rounds Inv-loop μ-loop
+sub-rounds c = search needs
 
 loop-less : tie.Need-loop-less Inv-loop μ-loop
 loop-less c = search needs
@@ -71,7 +72,7 @@ replay-flights-spec =
     line-end-requires
     take-requires
     past-requires
-    sub-turns
+    sub-rounds
     loop-less
     loop-again
     tally-requires-2

@@ -14,9 +14,9 @@ use Rattle.flight.specs.Envelope.{isInside}
 use Rattle.trace.proofs.Trace.{after, after-all, after-more}
 use Rattle.trace.specs.Trace.{tickAt, tickCount, ticksFrom, ticksOf}
 use Rattle.wing.proofs.Steps.{begin-of-its-step}
-use Rattle.wing.specs.Contracts.{OfTheirStep}
-use Rattle.wing.specs.declared.Ticked.{Ticked}
-use Rattle.run.proofs.Turns.{progress, stays-inside}
+use Rattle.wing.specs.Contracts.{FactorsMatchStep}
+use Rattle.wing.specs.declared.TickResult.{TickResult}
+use Rattle.run.proofs.Loop.{progress, stays-inside}
 use Rattle.run.specs.Contracts.{reflectedIf, trackFlown, trackOn}
 use Rattle.run.specs.Run.{Progress, ended, progressed, runFrom, runOf}
 use Rattle.run.proofs.fly_all.Statement.{statement}
@@ -30,7 +30,7 @@ Inv-loop a trace reflect count flight₀ powers densities lags₀ accepted₀ i�
     × (count ≡ tickCount trace)
     × (_≡_ {A = Progress} (record { flight = flight; accepted = accepted }) (after (trackOn reflect a) start trace i))
     × (isInside flight ≡ true)
-    × OfTheirStep a lags
+    × FactorsMatchStep a lags
     × Fits w64 (count + 1)
 
 abbrev μ-loop : tie.MeasureT-loop
@@ -57,15 +57,15 @@ loop-holds c =
       s .tick-count .ensures,
       refl,
       s .before .before .pre .1,
-      subst (OfTheirStep _) (sym (c .begin .ensures)) (begin-of-its-step _ _ (ofBits-fits binary32 _)),
+      subst (FactorsMatchStep _) (sym (c .begin .ensures)) (begin-of-its-step _ _ (ofBits-fits binary32 _)),
       search needs,
     )
 
 tick-at-requires : tie.Need-tick-at-requires Inv-loop μ-loop
 tick-at-requires c κs = search needs
 
-begin-after-requires : tie.Need-begin-after-requires Inv-loop μ-loop
-begin-after-requires c κs =
+cached-lag-factors-requires : tie.Need-cached-lag-factors-requires Inv-loop μ-loop
+cached-lag-factors-requires c κs =
     let s = c .before .before .before in
     (s .loop .inv .5, s .before .before .before .before .powers-of-two .ensures)
 
@@ -74,7 +74,7 @@ tick-inside-requires c κs =
     let s = c .before .before .before .before .before .before in
     let begun = s .before .before .before in
     let start = begun .before .before .before .before in
-    let factors = c .before .before .begin-after .ensures .0 in
+    let factors = c .before .before .cached-lag-factors .ensures .0 in
     (start .pre .0, (s .loop .inv .4, (factors, (begun .before .powers-of-two .ensures, begun .densities .ensures))))
 
 one-if-done-requires : tie.Need-one-if-done-requires Inv-loop μ-loop
@@ -111,9 +111,9 @@ loop-again c =
       progress (a .a) p _ (t .tick-at .result) (k .tick-inside .result) (n .result) (t .tick-at .ensures) (k .tick-inside .ensures) (n .ensures .0)
           ∙ ap (λ (q : Progress). on q (tickAt (a .trace .now) i)) (s .loop .inv .3)
           ∙ after-more on start (a .trace .now) i,
-      ap (λ (x : Ticked). isInside (x .flight)) (k .tick-inside .ensures)
+      ap (λ (x : TickResult). isInside (x .flight)) (k .tick-inside .ensures)
           ∙ stays-inside (a .a) (s .loop .flight) (t .tick-at .result) (s .loop .inv .4),
-      k .before .before .before .begin-after .ensures .1,
+      k .before .before .before .cached-lag-factors .ensures .1,
       s .loop .inv .6,
     )
 
@@ -145,7 +145,7 @@ fly-all-spec =
     begin-requires
     loop-holds
     tick-at-requires
-    begin-after-requires
+    cached-lag-factors-requires
     tick-inside-requires
     one-if-done-requires
     add-accepted

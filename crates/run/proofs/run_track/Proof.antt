@@ -1,8 +1,8 @@
 -- `run::run_track` meets its contract. Assumes nothing.
 use Rattle.trace.specs.Trace.{ticksOf}
-use Rattle.run.specs.Contracts.{reflectedIf, trackFlown, trackRan}
-use Rattle.run.specs.Run.{ranOver, runOf}
-use Rattle.run.proofs.Turns.{outside-run, refused-run}
+use Rattle.run.specs.Contracts.{reflectedIf, trackFlown, trackResult}
+use Rattle.run.specs.Run.{runResultOver, runOf}
+use Rattle.run.proofs.Loop.{outside-run, refused-run}
 use Rattle.flight.specs.Envelope.{isInside}
 use Rattle.airframe.specs.Acceptance.{refusedPlace}
 use mathlib.Core.Path.{_∙_, _≡_, sym}
@@ -22,10 +22,11 @@ is-inside-requires : tie.Need-is-inside-requires
 is-inside-requires c κs = search needs
 
 fly-all-requires : tie.Need-fly-all-requires
-fly-all-requires c κs = (sym (c .before .before .before .refused-place .ensures) ∙ c .before .before .if2 .taken, sym (c .before .is-inside .ensures) ∙ c .if3 .taken)
+fly-all-requires c κs =
+    (sym (c .before .before .before .refused-place .ensures) ∙ c .before .before .if2 .taken, sym (c .before .is-inside .ensures) ∙ c .if3 .taken)
 
 returns : tie.Need-returns
-unfolding trackRan ranOver trackFlown
+unfolding trackResult runResultOver trackFlown
 returns c =
     let k = c .before .before .before .before .before in
     rw (sym (k .before .is-whole .ensures) ∙ k .if1 .taken) (c .fly-all .ensures)
@@ -34,29 +35,35 @@ ended-requires : tie.Need-ended-requires
 ended-requires c κs = search needs
 
 returns-2 : tie.Need-returns-2
-unfolding trackRan ranOver runOf
+unfolding trackResult runResultOver runOf
 returns-2 c =
     let k = c .before .before .before .before .before in
     let a = k .before .before .before .args in
     let o : isInside (a .f) ≡ false = sym (c .before .before .is-inside .ensures) ∙ c .before .if3 .left in
-    rw (sym (k .before .is-whole .ensures) ∙ k .if1 .taken, outside-run (a .a) (record { flight = a .f; accepted = 0 }) (map (reflectedIf (a .reflect)) (ticksOf (a .trace .now))) o) (c .ended .ensures)
+    rw (
+      sym (k .before .is-whole .ensures) ∙ k .if1 .taken,
+      outside-run (a .a) (record { flight = a .f; accepted = 0 }) (map (reflectedIf (a .reflect)) (ticksOf (a .trace .now))) o,
+    ) (c .ended .ensures)
 
 ended-requires-2 : tie.Need-ended-requires-2
 ended-requires-2 c κs = search needs
 
 returns-3 : tie.Need-returns-3
-unfolding trackRan ranOver runOf
+unfolding trackResult runResultOver runOf
 returns-3 c =
     let k = c .before .before .before in
     let a = k .before .before .before .args in
     let n : refusedPlace (a .a) ≡ 0 → ⊥ = λ e. c .before .if2 .left (c .before .before .refused-place .ensures ∙ e) in
-    rw (sym (k .before .is-whole .ensures) ∙ k .if1 .taken, refused-run (a .a) (record { flight = a .f; accepted = 0 }) (map (reflectedIf (a .reflect)) (ticksOf (a .trace .now))) n) (c .ended2 .ensures)
+    rw (
+      sym (k .before .is-whole .ensures) ∙ k .if1 .taken,
+      refused-run (a .a) (record { flight = a .f; accepted = 0 }) (map (reflectedIf (a .reflect)) (ticksOf (a .trace .now))) n,
+    ) (c .ended2 .ensures)
 
 ended-requires-3 : tie.Need-ended-requires-3
 ended-requires-3 c κs = search needs
 
 returns-4 : tie.Need-returns-4
-unfolding trackRan ranOver
+unfolding trackResult runResultOver
 returns-4 c = rw (sym (c .before .before .is-whole .ensures) ∙ c .before .if1 .left) (c .ended3 .ensures)
 
 pub run-track-spec : {M : Type 1} → statement M

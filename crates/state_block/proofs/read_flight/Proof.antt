@@ -44,7 +44,15 @@ returns : tie.Need-returns
 unfolding flightWith
 returns c =
     let b = c .before in
-    simp (c .of .ensures, b .read-floats2 .ensures, b .before .read-floats .ensures, b .before .before .read-vec3 .ensures, b .before .before .before .read-attitude .ensures, b .before .before .before .before .read-vec2 .ensures, b .before .before .before .before .before .read-vec .ensures)
+    simp (
+      c .of .ensures,
+      b .read-floats2 .ensures,
+      b .before .read-floats .ensures,
+      b .before .before .read-vec3 .ensures,
+      b .before .before .before .read-attitude .ensures,
+      b .before .before .before .before .read-vec2 .ensures,
+      b .before .before .before .before .before .read-vec .ensures,
+    )
 
 pub read-flight-spec : {M : Type 1} → statement M
 read-flight-spec =

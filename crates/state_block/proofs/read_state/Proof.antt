@@ -20,7 +20,14 @@ tested-requires c κs = search needs
 
 returns : tie.Need-returns
 unfolding readStateOf flightFrom
-returns c = simp (c .tested .ensures, c .before .read-flight .ensures, c .before .before .read-floats2 .ensures, c .before .before .before .read-floats .ensures, eq-eqb _ _ (c .before .before .before .before .if1 .taken))
+returns c =
+    simp (
+      c .tested .ensures,
+      c .before .read-flight .ensures,
+      c .before .before .read-floats2 .ensures,
+      c .before .before .before .read-floats .ensures,
+      eq-eqb _ _ (c .before .before .before .before .if1 .taken),
+    )
 
 read-floats-requires-3 : tie.Need-read-floats-requires-3
 read-floats-requires-3 c κs = search needs
@@ -35,7 +42,13 @@ returns-2 : tie.Need-returns-2
 unfolding readStateOf ofBits
 returns-2 c =
     let s = c .before .before .before in
-    simp (c .tested2 .ensures, c .before .read-flight2 .ensures, c .before .before .read-floats3 .ensures, eq-eqb _ _ (s .if2 .taken), ne-eqb _ _ (s .before .if1 .left))
+    simp (
+      c .tested2 .ensures,
+      c .before .read-flight2 .ensures,
+      c .before .before .read-floats3 .ensures,
+      eq-eqb _ _ (s .if2 .taken),
+      ne-eqb _ _ (s .before .if1 .left),
+    )
 
 read-flight-requires-3 : tie.Need-read-flight-requires-3
 read-flight-requires-3 c κs = search needs
@@ -47,7 +60,13 @@ returns-3 : tie.Need-returns-3
 unfolding readStateOf ofBits
 returns-3 c =
     let s = c .before .before in
-    simp (c .tested3 .ensures, c .before .read-flight3 .ensures, eq-eqb _ _ (s .if3 .taken), ne-eqb _ _ (s .before .if2 .left), ne-eqb _ _ (s .before .before .if1 .left))
+    simp (
+      c .tested3 .ensures,
+      c .before .read-flight3 .ensures,
+      eq-eqb _ _ (s .if3 .taken),
+      ne-eqb _ _ (s .before .if2 .left),
+      ne-eqb _ _ (s .before .before .if1 .left),
+    )
 
 refused-requires : tie.Need-refused-requires
 refused-requires c κs = search needs

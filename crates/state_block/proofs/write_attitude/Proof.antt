@@ -37,7 +37,13 @@ same-length c = search needs
 
 returns : tie.Need-returns
 unfolding putAttitude putFloat
-returns c = simp (c .before .before .write4 .ensures, c .before .before .before .before .before .before .write3 .ensures, c .before .before .before .before .before .before .before .before .before .before .write2 .ensures, c .before .before .before .before .before .before .before .before .before .before .before .before .before .before .write .ensures)
+returns c =
+    simp (
+      c .before .before .write4 .ensures,
+      c .before .before .before .before .before .before .write3 .ensures,
+      c .before .before .before .before .before .before .before .before .before .before .write2 .ensures,
+      c .before .before .before .before .before .before .before .before .before .before .before .before .before .before .write .ensures,
+    )
 
 pub write-attitude-spec : {M : Type 1} → statement M
 write-attitude-spec =

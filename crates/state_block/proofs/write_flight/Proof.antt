@@ -53,7 +53,11 @@ returns c =
     let a = body .before .before .before .before .before .before .before .before .args in
     let slots : ℕ → List Float → List ℕ → List ℕ = λ at xs s. putFloats s (a .at + at) xs 8 in
     lift .write-floats4 .ensures
-    ∙ ap (slots liftAt (a .f .«lift_motors»)) (scales .write-floats3 .ensures ∙ ap (slots scalesAt (a .f .«thrust_scale»)) (servos .write-floats2 .ensures ∙ ap (slots servosAt (a .f .servos)) (motors .write-floats .ensures ∙ ap (slots motorsAt (a .f .motors)) (body .write-body .ensures ∙ ap (putBody _ (a .at)) (body .before .body .ensures)))))
+    ∙ ap (slots liftAt (a .f .«lift_motors»))
+    (scales .write-floats3 .ensures ∙ ap (slots scalesAt (a .f .«thrust_scale»))
+    (servos .write-floats2 .ensures ∙ ap (slots servosAt (a .f .servos))
+    (motors .write-floats .ensures ∙ ap (slots motorsAt (a .f .motors))
+    (body .write-body .ensures ∙ ap (putBody _ (a .at)) (body .before .body .ensures)))))
 
 pub write-flight-spec : {M : Type 1} → statement M
 write-flight-spec =

@@ -1,4 +1,4 @@
--- `surfaces::factors_of` meets its contract: after i turns the first i rows are put. Assumes nothing.
+-- `surfaces::factors_of` meets its contract: after i iterations the first i rows are put. Assumes nothing.
 use Prim.Native.Nat.{_-_, _≤_}
 use mathlib.Core.Path.{_∙_, _≡_, ap}
 use native.Mathlib.Nat.{le-antisymm}
@@ -50,7 +50,8 @@ returns : tie.Need-returns Inv-loop μ-loop
 unfolding factorsOf
 returns c =
     let s = c .before .before in
-    ap (λ (f : Factors). f .at) (s .loop .inv .2 ∙ ap (putTo putServoRow noFactors (s .before .before .before .before .args .rows .rows)) (le-antisymm (s .loop .inv .0) (c .before .loop-test .left) ∙ s .before .before .live .ensures .0))
+    ap (λ (f : Factors). f .at) (s .loop .inv .2 ∙ ap (putTo putServoRow noFactors (s .before .before .before .before .args .rows .rows))
+    (le-antisymm (s .loop .inv .0) (c .before .loop-test .left) ∙ s .before .before .live .ensures .0))
 
 pub factors-of-spec : {M : Type 1} → statement M
 factors-of-spec =

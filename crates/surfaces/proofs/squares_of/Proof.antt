@@ -1,4 +1,4 @@
--- `surfaces::squares_of` meets its contract: after i turns the sum is that of the first i slots. Assumes nothing.
+-- `surfaces::squares_of` meets its contract: after i iterations the sum is that of the first i slots. Assumes nothing.
 use Prim.Native.Nat.{_-_, _≤_}
 use mathlib.Core.Path.{_≡_}
 use native.Mathlib.Nat.{le-antisymm}
@@ -43,8 +43,11 @@ loop-less c = search needs
 loop-again : tie.Need-loop-again Inv-loop μ-loop
 unfolding squareAt
 loop-again c =
-    let s = c .before .before .before .before in
-    (search needs, vec-sum-more _ (s .loop .i) (s .loop .sum) (c .before .component-mul .result) (c .add .result) (s .loop .inv .1) (c .before .component-mul .ensures) (c .add .ensures))
+    let s = c .before .before .before .before in (
+      search needs,
+      vec-sum-more _ (s .loop .i) (s .loop .sum) (c .before .component-mul .result) (c .add .result) (s .loop .inv .1)
+          (c .before .component-mul .ensures) (c .add .ensures),
+    )
 
 returns : tie.Need-returns Inv-loop μ-loop
 unfolding squaresOf

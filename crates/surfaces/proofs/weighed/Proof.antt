@@ -1,4 +1,4 @@
--- `surfaces::weighed` meets its contract: after i turns the first i slots are weighed and the others as they were. Assumes nothing.
+-- `surfaces::weighed` meets its contract: after i iterations the first i slots are weighed and the others as they were. Assumes nothing.
 use Prim.Native.Nat.{_-_, ℕ}
 use lib.Ieee.{nan}
 use mathlib.Core.Path.{_∙_, _≡_, ap}
@@ -63,7 +63,8 @@ loop-again c =
     let n = s .before in
     let i = s .loop .i in
     fill-more (vec nan nan nan) _ _ (s .loop .weights) i (c .component-mul .result)
-    (c .component-mul .ensures ∙ ap (λ (z : Vec3). componentMul z (n .new .result)) (s .loop .inv .left i (le-refl i))) (c .before .before .loop-test .taken) (s .loop .inv)
+    (c .component-mul .ensures ∙ ap (λ (z : Vec3). componentMul z (n .new .result)) (s .loop .inv .left i (le-refl i)))
+    (c .before .before .loop-test .taken) (s .loop .inv)
 
 returns : tie.Need-returns Inv-loop μ-loop
 unfolding weighed weightAt inverseOf
@@ -71,8 +72,16 @@ returns c =
     let s = c .before in
     let n = s .before in
     let fs = n .before .before .before .before .before .args .factors in
-    let e : n .new .result ≡ inverseOf (squaresOf fs) = simp (n .new .ensures, n .before .inverse-or-zero3 .ensures, n .before .before .inverse-or-zero2 .ensures, n .before .before .before .inverse-or-zero .ensures, n .before .before .before .before .squares-of .ensures) in
-    fill-end (vec nan nan nan) _ _ (s .loop .weights) (s .loop .i) (c .loop-test .left) (s .loop .inv) ∙ ap (λ (v : Vec3). slots (λ (k : ℕ). componentMul (vecAt fs k) v)) e
+    let e : n .new .result ≡ inverseOf (squaresOf fs) =
+    simp (
+      n .new .ensures,
+      n .before .inverse-or-zero3 .ensures,
+      n .before .before .inverse-or-zero2 .ensures,
+      n .before .before .before .inverse-or-zero .ensures,
+      n .before .before .before .before .squares-of .ensures,
+    ) in
+    fill-end (vec nan nan nan) _ _ (s .loop .weights) (s .loop .i) (c .loop-test .left) (s .loop .inv)
+    ∙ ap (λ (v : Vec3). slots (λ (k : ℕ). componentMul (vecAt fs k) v)) e
 
 pub weighed-spec : {M : Type 1} → statement M
 weighed-spec =

@@ -3,7 +3,7 @@ use lib.Ieee.{ofBits, round}
 use Rattle.wing.proofs.Lift.{held-factor}
 use Rattle.airframe.specs.Contracts.{lagConstantsOf}
 use Rattle.motors.specs.Motor.{lagFactor}
-use Rattle.wing.specs.Contracts.{beginBy}
+use Rattle.wing.specs.Contracts.{lagFactorsFrom}
 use Rattle.wing.specs.Tick.{loadsIn, movedOf, nextWith, spunOf}
 use borrow.Author.Needs.{needs}
 use Rattle.wing.proofs.next_with.Statement.{statement}
@@ -37,7 +37,7 @@ stepped-requires : tie.Need-stepped-requires
 stepped-requires c κs = search needs
 
 returns : tie.Need-returns
-unfolding nextWith loadsIn spunOf movedOf lagFactor beginBy lagConstantsOf ofBits round
+unfolding nextWith loadsIn spunOf movedOf lagFactor lagFactorsFrom lagConstantsOf ofBits round
 returns c =
     let l = c .before .before .before in
     let s = l .before .before .before .before .before .before in

@@ -46,4 +46,5 @@ returns-2 c =
 
 pub tick-spec : {M : Type 1} → statement M
 tick-spec =
-    tie.close (tie.spec refused-place-requires powers-of-two-requires densities-requires begin-requires tick-accepted-requires returns refused-requires returns-2)
+    tie.close (tie.spec refused-place-requires powers-of-two-requires densities-requires begin-requires tick-accepted-requires returns
+    refused-requires returns-2)

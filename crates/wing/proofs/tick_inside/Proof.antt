@@ -23,7 +23,14 @@ unfolding tickOf tickWith acceptedTick ofBits round
 returns c =
     let outer = c .before .before .before .before in
     let pre = outer .before .before .pre in
-    simp (c .unless-departed .ensures, c .before .next-with .ensures, sym (c .before .before .before .wind-usable .ensures) ∙ c .before .before .if2 .taken, sym (outer .before .inside .ensures) ∙ outer .if1 .taken, pre .0, pre .1 .0)
+    simp (
+      c .unless-departed .ensures,
+      c .before .next-with .ensures,
+      sym (c .before .before .before .wind-usable .ensures) ∙ c .before .before .if2 .taken,
+      sym (outer .before .inside .ensures) ∙ outer .if1 .taken,
+      pre .0,
+      pre .1 .0,
+    )
 
 refused-requires : tie.Need-refused-requires
 refused-requires c κs = search needs
@@ -33,7 +40,13 @@ unfolding tickOf tickWith acceptedTick ofBits round
 returns-2 c =
     let outer = c .before .before .before in
     let pre = outer .before .before .pre in
-    simp (c .refused .ensures, sym (c .before .before .wind-usable .ensures) ∙ c .before .if2 .left, sym (outer .before .inside .ensures) ∙ outer .if1 .taken, pre .0, pre .1 .0)
+    simp (
+      c .refused .ensures,
+      sym (c .before .before .wind-usable .ensures) ∙ c .before .if2 .left,
+      sym (outer .before .inside .ensures) ∙ outer .if1 .taken,
+      pre .0,
+      pre .1 .0,
+    )
 
 refused-requires-2 : tie.Need-refused-requires-2
 refused-requires-2 c κs = search needs

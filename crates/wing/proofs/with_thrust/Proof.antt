@@ -22,7 +22,14 @@ add-requires-3 c κs = search needs
 
 returns : tie.Need-returns
 unfolding withThrust ofBits
-returns c = let s = c .before .before in simp (c .add3 .ensures, c .before .add2 .ensures, s .add .ensures, s .before .new2 .ensures, s .before .before .new .ensures)
+returns c =
+    let s = c .before .before in simp (
+      c .add3 .ensures,
+      c .before .add2 .ensures,
+      s .add .ensures,
+      s .before .new2 .ensures,
+      s .before .before .new .ensures,
+    )
 
 pub with-thrust-spec : {M : Type 1} → statement M
 with-thrust-spec =

@@ -15,7 +15,12 @@ first-refused-requires c κs = search needs
 
 returns : tie.Need-returns
 unfolding lowestPlace
-returns c = simp (c .first-refused .ensures, c .before .before .lift-torques-outside .ensures, c .before .before .before .before .before .before .before .before .numbers .ensures)
+returns c =
+    simp (
+      c .first-refused .ensures,
+      c .before .before .lift-torques-outside .ensures,
+      c .before .before .before .before .before .before .before .before .numbers .ensures,
+    )
 
 pub lowest-place-spec : {M : Type 1} → statement M
 lowest-place-spec = tie.close (tie.spec numbers-requires lift-torques-outside-requires first-refused-requires returns)

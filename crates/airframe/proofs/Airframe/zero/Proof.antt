@@ -8,14 +8,14 @@ use Rattle.airframe.proofs.Airframe.zero.Tie as tie
 motor-layout-of-requires : tie.Need-motor-layout-of-requires
 motor-layout-of-requires c κs = search needs
 
-undriven-requires : tie.Need-undriven-requires
-undriven-requires c κs = search needs
+empty-requires : tie.Need-empty-requires
+empty-requires c κs = search needs
 
 lift-layout-of-requires : tie.Need-lift-layout-of-requires
 lift-layout-of-requires c κs = search needs
 
-undriven-requires-2 : tie.Need-undriven-requires-2
-undriven-requires-2 c κs = search needs
+empty-requires-2 : tie.Need-empty-requires-2
+empty-requires-2 c κs = search needs
 
 zeros-requires : tie.Need-zeros-requires
 zeros-requires c κs = search needs
@@ -32,9 +32,9 @@ returns c =
     simp (
       c .from-numbers .ensures,
       z .zeros .ensures,
-      r .undriven2 .ensures,
+      r .empty2 .ensures,
       r .before .lift-layout-of .ensures,
-      m .undriven .ensures,
+      m .empty .ensures,
       m .before .motor-layout-of .ensures,
     )
 
@@ -43,9 +43,9 @@ zero-spec =
     tie.close
     (tie.spec
     motor-layout-of-requires
-    undriven-requires
+    empty-requires
     lift-layout-of-requires
-    undriven-requires-2
+    empty-requires-2
     zeros-requires
     from-numbers-requires
     returns)

@@ -18,7 +18,13 @@ reflected-axis-requires c κs = search needs
 
 returns : tie.Need-returns
 unfolding reflectBody
-returns c = simp (c .reflected-axis .ensures, c .before .reflected3 .ensures, c .before .before .reflected2 .ensures, c .before .before .before .reflected .ensures)
+returns c =
+    simp (
+      c .reflected-axis .ensures,
+      c .before .reflected3 .ensures,
+      c .before .before .reflected2 .ensures,
+      c .before .before .before .reflected .ensures,
+    )
 
 pub reflected-spec : {M : Type 1} → statement M
 reflected-spec =

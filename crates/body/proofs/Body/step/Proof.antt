@@ -27,7 +27,16 @@ next-attitude-requires c κs = search needs
 
 returns : tie.Need-returns
 unfolding stepOf nextVelocity nextPosition
-returns c = simp (c .next-attitude .ensures, c .before .next-rates .ensures, c .before .before .add2 .ensures, c .before .before .before .scale2 .ensures, c .before .before .before .before .add .ensures, c .before .before .before .before .before .scale .ensures, c .before .before .before .before .before .before .acceleration .ensures)
+returns c =
+    simp (
+      c .next-attitude .ensures,
+      c .before .next-rates .ensures,
+      c .before .before .add2 .ensures,
+      c .before .before .before .scale2 .ensures,
+      c .before .before .before .before .add .ensures,
+      c .before .before .before .before .before .scale .ensures,
+      c .before .before .before .before .before .before .acceleration .ensures,
+    )
 
 pub step-spec : {M : Type 1} → statement M
 step-spec =

@@ -1,4 +1,5 @@
--- `libm::log::positive` meets its contract: below the normal range the pattern b is a whole number of 2 ^ -149, so b's own parts are taken, with 149 less in the exponent. Assumes nothing.
+-- `libm::log::positive` meets its contract: below the normal range the pattern b is a whole number of 2 ^ -149, so b's own parts
+-- are taken, with 149 less in the exponent. Assumes nothing.
 use Prim.Native.Nat.{_^_}
 use lib.Dec.{le→leb}
 use lib.Ieee.{Float, binary32, inFloat, ofInt}
@@ -28,22 +29,31 @@ mantissa-and-exponent-requires : tie.Need-mantissa-and-exponent-requires
 mantissa-and-exponent-requires c κs = whole-pattern (c .before .before .args .b) (c .before .before .pre .0) (c .before .if1 .taken)
 
 -- the parts of b as a float, and its exponent as the machine reads it
-whole-parts : (c : tie.After-mantissa-and-exponent) → SplitOf (ofInt binary32 (pos (c .before .before .before .args .b))) (c .mantissa-and-exponent .result .mantissa) (c .mantissa-and-exponent .result .exponent)
+whole-parts : (c : tie.After-mantissa-and-exponent) → SplitOf (ofInt binary32 (pos (c .before .before .before .args .b)))
+    (c .mantissa-and-exponent .result .mantissa) (c .mantissa-and-exponent .result .exponent)
 whole-parts c =
     let b = c .before .before .before .args .b in
     let r = c .mantissa-and-exponent .result in
-    subst (λ (x : Float). SplitOf x (r .mantissa) (r .exponent)) (ofBits-toBits binary32 (ofInt binary32 (pos b)) (ofInt-fits binary32 (pos b))) (c .mantissa-and-exponent .ensures)
+    subst (λ (x : Float). SplitOf x (r .mantissa) (r .exponent)) (ofBits-toBits binary32 (ofInt binary32 (pos b)) (ofInt-fits binary32 (pos b)))
+    (c .mantissa-and-exponent .ensures)
 
 read : (c : tie.After-mantissa-and-exponent) → toZ w64 (ofZ w64 (c .mantissa-and-exponent .result .exponent)) ≡ c .mantissa-and-exponent .result .exponent
-read c = toZ-ofZ w64 (c .mantissa-and-exponent .result .exponent) (binary-fits (c .mantissa-and-exponent .result .exponent) (c .mantissa-and-exponent .ensures .in-range))
+read c =
+    toZ-ofZ w64 (c .mantissa-and-exponent .result .exponent)
+    (binary-fits (c .mantissa-and-exponent .result .exponent) (c .mantissa-and-exponent .ensures .in-range))
 
 lowered : (c : tie.After-mantissa-and-exponent) → Binary (c .mantissa-and-exponent .result .exponent -ℤ pos 149)
 lowered c =
     let s = c .before .before .before in
-    lowered-binary (s .args .b) (s .pre .0) (c .before .before .if1 .taken) (c .mantissa-and-exponent .result .mantissa) (c .mantissa-and-exponent .result .exponent) (whole-parts c)
+    lowered-binary (s .args .b) (s .pre .0) (c .before .before .if1 .taken) (c .mantissa-and-exponent .result .mantissa)
+    (c .mantissa-and-exponent .result .exponent) (whole-parts c)
 
-read-lowered : (c : tie.After-mantissa-and-exponent) → toZ w64 (ofZ w64 (toZ w64 (ofZ w64 (c .mantissa-and-exponent .result .exponent)) -ℤ pos 149)) ≡ c .mantissa-and-exponent .result .exponent -ℤ pos 149
-read-lowered c = ap (λ (z : ℤ). toZ w64 (ofZ w64 (z -ℤ pos 149))) (read c) ∙ toZ-ofZ w64 (c .mantissa-and-exponent .result .exponent -ℤ pos 149) (binary-fits (c .mantissa-and-exponent .result .exponent -ℤ pos 149) (lowered c))
+read-lowered : (c : tie.After-mantissa-and-exponent) → toZ w64 (ofZ w64 (toZ w64 (ofZ w64 (c .mantissa-and-exponent .result .exponent)) -ℤ pos 149))
+    ≡ c .mantissa-and-exponent .result .exponent -ℤ pos 149
+read-lowered c =
+    ap (λ (z : ℤ). toZ w64 (ofZ w64 (z -ℤ pos 149))) (read c)
+    ∙ toZ-ofZ w64 (c .mantissa-and-exponent .result .exponent -ℤ pos 149)
+    (binary-fits (c .mantissa-and-exponent .result .exponent -ℤ pos 149) (lowered c))
 
 sub-joined : tie.Need-sub-joined
 sub-joined c =

@@ -1,4 +1,4 @@
--- `libm::powers::power_of_two` meets its contract: k + 126 is a place of the table, so the machine's sum and cast lose nothing. Assumes nothing.
+-- `libm::powers::power_of_two` meets its contract: k + 126 is an index of the table, so the machine's sum and cast lose nothing. Assumes nothing.
 use Prim.Native.Nat.{_*_, _<_, ℕ}
 use lib.Dec.{T}
 use lib.Ieee.{Float, nan}
@@ -11,14 +11,14 @@ use mir.Syntax.{w64}
 use mir.Val.{Fits, SFits, ofZ, toZ}
 use mir.ValLaws.{toZ-ofZ}
 use native.Mathlib.Omega.{arith}
-use Rattle.libm.proofs.Places.{Place, entry, place}
+use Rattle.libm.proofs.Entries.{Index, entry, index-of}
 use Rattle.libm.specs.Powers.{powerCount}
 use Rattle.libm.proofs.powers.power_of_two.Statement.{statement}
 use Rattle.libm.proofs.powers.power_of_two.Tie as tie
 
--- the place, as the machine reads the sum
-at : (c : tie.Start) → Place (c .args .k) (toZ w64 (ofZ w64 (c .args .k)) +ℤ pos 126)
-at c = subst (λ (z : ℤ). Place (c .args .k) (z +ℤ pos 126)) (sym (toZ-ofZ w64 (c .args .k) (c .fits .k))) (place (c .args .k) (c .pre .0))
+-- the index, as the machine reads the sum
+at : (c : tie.Start) → Index (c .args .k) (toZ w64 (ofZ w64 (c .args .k)) +ℤ pos 126)
+at c = subst (λ (z : ℤ). Index (c .args .k) (z +ℤ pos 126)) (sym (toZ-ofZ w64 (c .args .k) (c .fits .k))) (index-of (c .args .k) (c .pre .0))
 
 held : (n : ℕ) → n < powerCount → SFits w64 (pos n)
 held n h = record { sfits = omega arith }

@@ -1,7 +1,7 @@
--- `libm::powers::powers_of_two` meets its contract: each of the 254 entries has the bits of its place's power. Assumes nothing.
+-- `libm::powers::powers_of_two` meets its contract: each of the 254 entries has the bits of its index's power. Assumes nothing.
 use mathlib.Core.Path.{sym}
 use Rattle.float.specs.Lists.{listFrom, listOf}
-use Rattle.libm.proofs.Places.{patterns}
+use Rattle.libm.proofs.Entries.{patterns}
 use Rattle.libm.proofs.powers.powers_of_two.Statement.{statement}
 use Rattle.libm.proofs.powers.powers_of_two.Tie as tie
 

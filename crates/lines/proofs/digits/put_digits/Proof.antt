@@ -5,14 +5,14 @@ use native.Mathlib.Nat.{mod-lt}
 use native.Mathlib.Omega.{arith}
 use mathlib.Core.Path.{_∙_, _≡_, ap, refl, sym}
 use borrow.Author.Needs.{needs}
-use Rattle.lines.specs.Text.{digitsOf, placed}
+use Rattle.lines.specs.Text.{digitsOf, overwrite}
 use Rattle.lines.proofs.Texts.{digit-stored}
 use Rattle.lines.proofs.digits.put_digits.Statement.{statement}
 use Rattle.lines.proofs.digits.put_digits.Tie as tie
 
 abbrev Inv-loop : tie.InvT-loop
 Inv-loop out₀ at n base k rest₀ i₀ out rest i =
-    (i ≤ k) × (placed out at (digitsOf base i rest) ≡ placed out₀ at (digitsOf base k n))
+    (i ≤ k) × (overwrite out at (digitsOf base i rest) ≡ overwrite out₀ at (digitsOf base k n))
 
 abbrev μ-loop : tie.MeasureT-loop
 μ-loop out₀ at n base k rest₀ i₀ out rest i = i
@@ -48,18 +48,18 @@ loop-again c =
     let l = c .before .before .loop in
     let a = c .before .before .before .args in (
       search needs,
-      ap (λ (g : ℕ). placed (set (l .out) (a .at + (l .i - 1)) g) (a .at) (digitsOf (a .base) (l .i - 1) (l .rest / a .base))) (c .glyph .ensures)
+      ap (λ (g : ℕ). overwrite (set (l .out) (a .at + (l .i - 1)) g) (a .at) (digitsOf (a .base) (l .i - 1) (l .rest / a .base))) (c .glyph .ensures)
           ∙ digit-stored (a .base) (l .i) (l .i - 1) (l .rest) (a .at) (l .out) (omega arith)
           ∙ l .inv .1,
     )
 
 returns : tie.Need-returns Inv-loop μ-loop
-unfolding digitsOf placed
+unfolding digitsOf overwrite
 returns c =
     let l = c .before .loop in
     let a = c .before .before .args in
     let none : l .i ≡ 0 = omega arith in
-    sym (ap (λ (j : ℕ). placed (l .out) (a .at) (digitsOf (a .base) j (l .rest))) none) ∙ l .inv .1
+    sym (ap (λ (j : ℕ). overwrite (l .out) (a .at) (digitsOf (a .base) j (l .rest))) none) ∙ l .inv .1
 
 pub put-digits-spec : {M : Type 1} → statement M
 put-digits-spec =

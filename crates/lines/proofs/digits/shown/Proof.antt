@@ -1,5 +1,6 @@
 -- `lines::digits::shown` meets its contract: a zero, and any other number. Assumes nothing.
-use Prim.Native.Nat.{suc, zero}
+use Prim.Native.Nat as Nat
+use Prim.Native.Nat.{suc}
 use lib.Ieee.{Float, binary32, eq, fin, inf, nan, ofBits, toBits}
 use lib.IntN.{ℤ}
 use mathlib.Core.Bool.{false, false≢true, true, true≢false}
@@ -7,27 +8,27 @@ use mathlib.Core.Path.{_∙_, _≡_, ap, refl, sym}
 use native.Mathlib.Nat.{zero-div, zero-mul}
 use borrow.Author.Needs.{needs}
 use Rattle.float.proofs.Zeros.{some-not-zero, zero-is-zero}
-use Rattle.float.specs.Notation.{nought}
+use Rattle.float.specs.Notation.{zero}
 use Rattle.float.specs.Same.{num}
 use Rattle.lines.proofs.digits.shown.Statement.{statement}
 use Rattle.lines.proofs.digits.shown.Tie as tie
 
-zero-bits : (e : ℤ) → 0 ≡ toBits binary32 (fin false zero e)
+zero-bits : (e : ℤ) → 0 ≡ toBits binary32 (fin false Nat.zero e)
 unfolding toBits
 zero-bits e = simp (zero-mul, zero-div)
 
-of-zero : (x : Float) → eq x nought ≡ true → 0 ≡ toBits binary32 (num x)
+of-zero : (x : Float) → eq x zero ≡ true → 0 ≡ toBits binary32 (num x)
 unfolding num
 of-zero nan h = absurd (false≢true (unfold eq in h))
 of-zero (inf s) h = absurd (false≢true (unfold eq in h))
-of-zero (fin s zero e) h = zero-bits e
+of-zero (fin s Nat.zero e) h = zero-bits e
 of-zero (fin s (suc m) e) h = absurd (false≢true (sym (some-not-zero s m e) ∙ h))
 
-of-other : (x : Float) → eq x nought ≡ false → x ≡ num x
+of-other : (x : Float) → eq x zero ≡ false → x ≡ num x
 unfolding num
 of-other nan h = refl
 of-other (inf s) h = refl
-of-other (fin s zero e) h = absurd (true≢false (sym (zero-is-zero s e) ∙ h))
+of-other (fin s Nat.zero e) h = absurd (true≢false (sym (zero-is-zero s e) ∙ h))
 of-other (fin s (suc m) e) h = refl
 
 returns : tie.Need-returns

@@ -2,9 +2,9 @@
 use Prim.Native.Nat.{ℕ}
 use mathlib.Core.Path.{_∙_, ap}
 use borrow.Author.Needs.{needs}
-use Rattle.lines.specs.Leg.{oneMore, tickText}
+use Rattle.lines.specs.TickLog.{oneMore, tickText}
 use Rattle.lines.specs.Text.{lineText}
-use Rattle.wing.specs.declared.Ticked.{Ticked}
+use Rattle.wing.specs.declared.TickResult.{TickResult}
 use Rattle.lines.proofs.Texts.{as-put, same-text}
 use Rattle.lines.proofs.flown.fly_one.Statement.{statement}
 use Rattle.lines.proofs.flown.fly_one.Tie as tie
@@ -28,9 +28,9 @@ returns c =
     let all =
     same-text
     (ap (λ (i : ℕ). lineText i (done .result .report .answer) (done .result .flight)) (next .ensures)
-    ∙ ap (λ (d : Ticked). lineText (oneMore (a .p .index)) (d .report .answer) (d .flight)) (done .ensures))
+    ∙ ap (λ (d : TickResult). lineText (oneMore (a .p .index)) (d .report .answer) (d .flight)) (done .ensures))
     line in
-    (all .page, (ap (λ (d : Ticked). d .flight) (done .ensures), (next .ensures, (all .next, search needs))))
+    (all .page, (ap (λ (d : TickResult). d .flight) (done .ensures), (next .ensures, (all .next, search needs))))
 
 pub fly-one-spec : {M : Type 1} → statement M
 fly-one-spec =

@@ -1,24 +1,25 @@
 -- `lines::flown::fly_ticks` meets its contract. Assumes nothing.
-use Prim.Native.Nat.{_*_, _-_, _≤_}
+use Prim.Native.Nat.{_*_, _+_, _-_, _≤_}
 use mathlib.Core.Path.{_≡_, subst}
 use native.Mathlib.Omega.{arith}
 use borrow.Author.Needs.{needs}
 use lib.ListN.{length}
+use Rattle.lines.specs.Page.{lineBytes, pageBytes}
 use Rattle.trace.proofs.Trace.{after, after-all, after-more}
 use Rattle.trace.specs.Trace.{tickCount, ticksFrom}
-use Rattle.lines.specs.Leg.{Leg, legFrom, legOf, legOn}
-use Rattle.lines.proofs.Legs.{Reached, reached-more, reached-none}
+use Rattle.lines.specs.TickLog.{TickLog, logFrom, logOf, logOn}
+use Rattle.lines.proofs.TickLogs.{Reached, reached-more, reached-none}
 use Rattle.lines.proofs.flown.fly_ticks.Statement.{statement}
 use Rattle.lines.proofs.flown.fly_ticks.Tie as tie
 
 abbrev Inv-loop : tie.InvT-loop
 Inv-loop a trace out₀ count flown₀ i₀ out flown i =
-    let start = legFrom (flown₀ .flight) (flown₀ .index) in
+    let start = logFrom (flown₀ .flight) (flown₀ .index) in
     (i ≤ count)
     × (count ≡ tickCount trace)
-    × (flown .at ≤ 160 * i)
-    × (2 * length trace ≤ 65376)
-    × Reached out₀ (after (legOn a) start trace i) (flown .flight) (flown .index) out (flown .at)
+    × (flown .at ≤ lineBytes * i)
+    × (2 * length trace + lineBytes ≤ pageBytes)
+    × Reached out₀ (after (logOn a) start trace i) (flown .flight) (flown .index) out (flown .at)
 
 abbrev μ-loop : tie.MeasureT-loop
 μ-loop a trace out₀ count flown₀ i₀ out flown i = count - i
@@ -50,7 +51,7 @@ loop-again c =
     let more =
     reached-more
     (a .a)
-    (after-more (legOn (a .a)) (legFrom (a .p .flight) (a .p .index)) (a .trace .now) (l .i))
+    (after-more (logOn (a .a)) (logFrom (a .p .flight) (a .p .index)) (a .trace .now) (l .i))
     (l .inv .4)
     (c .before .before .tick-at .ensures)
     (f .1 .0)
@@ -59,13 +60,13 @@ loop-again c =
     (search needs, search needs, search needs, search needs, more)
 
 returns : tie.Need-returns Inv-loop μ-loop
-unfolding legOf
+unfolding logOf
 returns c =
     let l = c .before .loop in
     let a = c .before .before .before .before .args in
-    let start : Leg = legFrom (a .p .flight) (a .p .index) in
-    let all = after-all (legOn (a .a)) start (a .trace .now) (l .i) (omega arith) (omega (arith, c .loop-test .left)) in
-    let h = subst (λ (x : Leg). Reached (a .out .now) x (l .flown .flight) (l .flown .index) (l .out) (l .flown .at)) all (l .inv .4) in
+    let start : TickLog = logFrom (a .p .flight) (a .p .index) in
+    let all = after-all (logOn (a .a)) start (a .trace .now) (l .i) (omega arith) (omega (arith, c .loop-test .left)) in
+    let h = subst (λ (x : TickLog). Reached (a .out .now) x (l .flown .flight) (l .flown .index) (l .out) (l .flown .at)) all (l .inv .4) in
     (h .put .page, (h .flight, (h .count, (omega (arith, h .put .next), search needs))))
 
 pub fly-ticks-spec : {M : Type 1} → statement M

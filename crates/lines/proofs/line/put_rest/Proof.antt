@@ -33,7 +33,8 @@ returns c =
     let b = c .before .before .before in
     let d = b .before .before in
     let space = as-byte _ _ _ _ _ (c .before .before .before .before .before .before .before .before .before .put-byte .ensures) in
-    let number = same-text (ap decimalText (d .before .wide .ensures ∙ d .before .before .number .ensures)) (as-put _ _ (decimalText (d .before .wide .result)) _ _ _ (d .put-decimal .ensures)) in
+    let number = same-text (ap decimalText (d .before .wide .ensures ∙ d .before .before .number .ensures))
+    (as-put _ _ (decimalText (d .before .wide .result)) _ _ _ (d .put-decimal .ensures)) in
     let body = same-text (ap bodyText (b .body .ensures)) (as-put _ _ (bodyText (b .body .result)) _ _ _ (c .before .before .put-body .ensures)) in
     let newline = as-byte _ _ _ _ _ (c .put-byte2 .ensures) in
     let all = then (then (then space number) body) newline in

@@ -41,13 +41,16 @@ unfolding refusalText
 returns c =
     let d = c .before .before .before .before .before .before .before .before in
     let e = c .before .before in
-    let nought = as-byte _ _ _ _ _ (c .before .before .before .before .before .before .before .before .before .before .before .before .before .before .put-byte .ensures) in
+    let zero = as-byte _ _ _ _ _ (c .before .before .before .before .before .before .before .before .before .before .before .before .before .before
+    .put-byte .ensures) in
     let space = as-byte _ _ _ _ _ (c .before .before .before .before .before .before .before .before .before .before .before .before .put-byte2 .ensures) in
-    let number = same-text (ap decimalText (d .before .wide .ensures ∙ d .before .before .number .ensures)) (as-put _ _ (decimalText (d .before .wide .result)) _ _ _ (d .put-decimal .ensures)) in
+    let number = same-text (ap decimalText (d .before .wide .ensures ∙ d .before .before .number .ensures))
+    (as-put _ _ (decimalText (d .before .wide .result)) _ _ _ (d .put-decimal .ensures)) in
     let again = as-byte _ _ _ _ _ (c .before .before .before .before .before .before .put-byte3 .ensures) in
-    let place = same-text (ap decimalText (e .before .wide2 .ensures ∙ e .before .before .place .ensures)) (as-put _ _ (decimalText (e .before .wide2 .result)) _ _ _ (e .put-decimal2 .ensures)) in
+    let place = same-text (ap decimalText (e .before .wide2 .ensures ∙ e .before .before .place .ensures))
+    (as-put _ _ (decimalText (e .before .wide2 .result)) _ _ _ (e .put-decimal2 .ensures)) in
     let newline = as-byte _ _ _ _ _ (c .put-byte4 .ensures) in
-    let all = then (then (then (then (then nought space) number) again) place) newline in
+    let all = then (then (then (then (then zero space) number) again) place) newline in
     (all .page, (all .next, search needs))
 
 pub put-refusal-spec : {M : Type 1} → statement M

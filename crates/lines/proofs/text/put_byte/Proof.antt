@@ -1,7 +1,7 @@
 -- `lines::text::put_byte` meets its contract. Assumes nothing.
 use mathlib.Core.Path.{refl}
 use borrow.Author.Needs.{needs}
-use Rattle.lines.specs.Text.{placed}
+use Rattle.lines.specs.Text.{overwrite}
 use Rattle.lines.proofs.text.put_byte.Statement.{statement}
 use Rattle.lines.proofs.text.put_byte.Tie as tie
 
@@ -12,7 +12,7 @@ add-result : tie.Need-add-result
 add-result c = search needs
 
 returns : tie.Need-returns
-unfolding placed
+unfolding overwrite
 returns c = (refl, search needs)
 
 pub put-byte-spec : {M : Type 1} → statement M

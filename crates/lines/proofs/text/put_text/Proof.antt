@@ -5,7 +5,7 @@ use native.Mathlib.Numerals.{add-one}
 use native.Mathlib.Omega.{arith}
 use lib.ListN.{getD, length, set, take}
 use lib.Seq.{take-length}
-use Rattle.lines.specs.Text.{placed}
+use Rattle.lines.specs.Text.{overwrite}
 use mathlib.Core.Path.{_∙_, _≡_, ap, refl, sym}
 use borrow.Author.Needs.{needs}
 use Rattle.lines.proofs.Texts.{byte-stored}
@@ -13,13 +13,13 @@ use Rattle.lines.proofs.text.put_text.Statement.{statement}
 use Rattle.lines.proofs.text.put_text.Tie as tie
 
 abbrev Inv-loop : tie.InvT-loop
-Inv-loop out₀ at text i₀ out i = (i ≤ length text) × (out ≡ placed out₀ at (take i text))
+Inv-loop out₀ at text i₀ out i = (i ≤ length text) × (out ≡ overwrite out₀ at (take i text))
 
 abbrev μ-loop : tie.MeasureT-loop
 μ-loop out₀ at text i₀ out i = length text - i
 
 loop-holds : tie.Need-loop-holds Inv-loop μ-loop
-unfolding placed
+unfolding overwrite
 loop-holds c = (search needs, refl)
 
 shared-slice-read-out : tie.Need-shared-slice-read-out Inv-loop μ-loop
@@ -44,7 +44,7 @@ loop-again c =
       search needs,
       ap (λ (o : List ℕ). set o (a .at + l .i) (getD (a .text .now) (l .i) 0)) (l .inv .1)
           ∙ byte-stored (a .text .now) (a .out .now) (a .at) (l .i) (c .before .loop-test .taken)
-          ∙ ap (λ (k : ℕ). placed (a .out .now) (a .at) (take k (a .text .now))) (sym (add-one (l .i))),
+          ∙ ap (λ (k : ℕ). overwrite (a .out .now) (a .at) (take k (a .text .now))) (sym (add-one (l .i))),
     )
 
 add-result : tie.Need-add-result Inv-loop μ-loop
@@ -56,8 +56,8 @@ returns c =
     let a = c .before .before .args in
     let all : l .i ≡ length (a .text .now) = omega arith in (
       l .inv .1
-          ∙ ap (λ (k : ℕ). placed (a .out .now) (a .at) (take k (a .text .now))) all
-          ∙ ap (placed (a .out .now) (a .at)) (take-length (a .text .now)),
+          ∙ ap (λ (k : ℕ). overwrite (a .out .now) (a .at) (take k (a .text .now))) all
+          ∙ ap (overwrite (a .out .now) (a .at)) (take-length (a .text .now)),
       omega (arith, all),
     )
 

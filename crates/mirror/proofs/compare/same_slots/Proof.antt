@@ -46,7 +46,12 @@ loop-less c = search needs
 
 loop-again : tie.Need-loop-again Inv-loop μ-loop
 unfolding sameSlot
-loop-again c = let s = c .before .before .before in (search needs, pass-more _ (s .loop .i) (s .loop .ok) _ (s .loop .inv .1) (c .both .ensures ∙ ap (λ (t : Bool). cond t (s .loop .ok) false) (c .before .same .ensures)))
+loop-again c =
+    let s = c .before .before .before in (
+      search needs,
+      pass-more _ (s .loop .i) (s .loop .ok) _ (s .loop .inv .1)
+          (c .both .ensures ∙ ap (λ (t : Bool). cond t (s .loop .ok) false) (c .before .same .ensures)),
+    )
 
 returns : tie.Need-returns Inv-loop μ-loop
 returns c = c .before .loop .inv .1 ∙ ap (allPass _) (le-antisymm (c .before .loop .inv .0) (c .loop-test .left))

@@ -1,6 +1,6 @@
 -- `mirror::track::after` meets its contract. Assumes nothing.
 use borrow.Author.Needs.{needs}
-use Rattle.lines.specs.Leg.{oneMore}
+use Rattle.lines.specs.TickLog.{oneMore}
 use Rattle.mirror.specs.Tracks.{tracksAfter}
 use Rattle.mirror.proofs.track.after.Statement.{statement}
 use Rattle.mirror.proofs.track.after.Tie as tie

@@ -1,14 +1,13 @@
 -- `mirror::track::counted` meets its contract. Assumes nothing.
 use mathlib.Core.Path.{_∙_, sym}
 use borrow.Author.Needs.{needs}
-use borrow.Author.Tests.{eq-eqb, ne-eqb}
-use Rattle.lines.specs.Leg.{oneMore}
+use Rattle.lines.specs.TickLog.{oneMore}
 use Rattle.mirror.specs.Tracks.{countOf}
 use Rattle.mirror.proofs.track.counted.Statement.{statement}
 use Rattle.mirror.proofs.track.counted.Tie as tie
 
-number-requires : tie.Need-number-requires
-number-requires c κs = search needs
+is-done-requires : tie.Need-is-done-requires
+is-done-requires c κs = search needs
 
 wrapping-add-u64-requires : tie.Need-wrapping-add-u64-requires
 wrapping-add-u64-requires c κs = search needs
@@ -16,12 +15,12 @@ wrapping-add-u64-requires c κs = search needs
 returns : tie.Need-returns
 unfolding countOf oneMore
 returns c =
-    let number = c .before .before .number in
-    c .wrapping-add-u64 .ensures ∙ sym (simp (eq-eqb _ _ (sym (number .ensures) ∙ c .before .if1 .taken)))
+    let done = c .before .before .is-done in
+    c .wrapping-add-u64 .ensures ∙ sym (simp (sym (done .ensures) ∙ c .before .if1 .taken))
 
 returns-2 : tie.Need-returns-2
 unfolding countOf
-returns-2 c = sym (simp (ne-eqb _ _ (λ e. c .if1 .left (c .before .number .ensures ∙ e))))
+returns-2 c = sym (simp (sym (c .before .is-done .ensures) ∙ c .if1 .left))
 
 pub counted-spec : {M : Type 1} → statement M
-counted-spec = tie.close (tie.spec number-requires wrapping-add-u64-requires returns returns-2)
+counted-spec = tie.close (tie.spec is-done-requires wrapping-add-u64-requires returns returns-2)

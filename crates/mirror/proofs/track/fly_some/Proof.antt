@@ -4,6 +4,7 @@ use lib.ListN.{length}
 use mathlib.Core.List.{List, []}
 use mathlib.Core.Path.{_∙_, _≡_, ap, refl, subst}
 use native.Mathlib.Omega.{arith}
+use Rattle.lines.specs.Page.{lineBytes}
 use Rattle.trace.proofs.Trace.{after, after-all, after-more}
 use Rattle.trace.specs.Tick.{tickBytes}
 use Rattle.trace.specs.Trace.{tickCount, ticksFrom}
@@ -18,7 +19,7 @@ Inv-loop a trace out₀ count pair₀ i₀ out pair i =
     let so-far = after (shownOn a) (record { tracks = tracksOf pair₀; text = [] }) trace i in
     (i ≤ count)
     × (count ≡ tickCount trace)
-    × (pair .at ≤ 320 * i)
+    × (pair .at ≤ 2 * lineBytes * i)
     × (length trace ≤ 200 * tickBytes)
     × (tracksOf pair ≡ so-far .tracks)
     × Put out₀ 0 (so-far .text) out (pair .at)

@@ -19,8 +19,8 @@ abbrev μ-loop : tie.MeasureT-loop
 live-requires : tie.Need-live-requires Inv-loop μ-loop
 live-requires c κs = search needs
 
-undriven-requires : tie.Need-undriven-requires Inv-loop μ-loop
-undriven-requires c κs = search needs
+empty-requires : tie.Need-empty-requires Inv-loop μ-loop
+empty-requires c κs = search needs
 
 loop-holds : tie.Need-loop-holds Inv-loop μ-loop
 unfolding putTo
@@ -52,7 +52,8 @@ returns c =
     let s = c .before in
     let a = s .before .before .before .before .args in
     let n = le-antisymm (s .loop .inv .0) (c .loop-test .left) ∙ s .before .before .live .ensures .0 in
-    s .loop .inv .2 ∙ ap (putTo putMotorRow _ (a .rows .rows)) n ∙ ap (λ (g : MotorGroup). putTo putMotorRow g (a .rows .rows) (liveOf (a .rows))) (s .before .undriven .ensures)
+    s .loop .inv .2 ∙ ap (putTo putMotorRow _ (a .rows .rows)) n
+    ∙ ap (λ (g : MotorGroup). putTo putMotorRow g (a .rows .rows) (liveOf (a .rows))) (s .before .empty .ensures)
 
 pub new-spec : {M : Type 1} → statement M
 new-spec =
@@ -61,7 +62,7 @@ new-spec =
     Inv-loop
     μ-loop
     live-requires
-    undriven-requires
+    empty-requires
     loop-holds
     mul-put
     array-copy-out-put

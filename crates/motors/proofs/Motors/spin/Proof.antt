@@ -56,7 +56,8 @@ loop-again c =
     let a = s .before .before .before .before .args in
     let i = s .loop .i in
     fill-more nan (spinAt (a .self) (a .t2) (a .factor)) (a .self .running) (s .loop .running) i (c .spun .result)
-    (c .spun .ensures ∙ ap (λ (z : Float). spun (flagAt (a .self .group .used) i) z (at (a .t2) i) (a .factor)) (s .loop .inv .left i (le-refl i))) (c .before .loop-test .taken) (s .loop .inv)
+    (c .spun .ensures ∙ ap (λ (z : Float). spun (flagAt (a .self .group .used) i) z (at (a .t2) i) (a .factor)) (s .loop .inv .left i (le-refl i)))
+    (c .before .loop-test .taken) (s .loop .inv)
 
 returns : tie.Need-returns Inv-loop μ-loop
 unfolding spinOf

@@ -7,7 +7,7 @@ use borrow.Author.Needs.{needs}
 use Rattle.mixers.proofs.Slots.{sum-more, vec-sum-more}
 use Rattle.mixers.specs.Slots.{sumTo, vecAt, vecSumTo}
 use Rattle.vector.specs.Vector.{scaleOf}
-use Rattle.motors.specs.Motor.{slotThrust, slotTorque, whole, wrenchBy, wrenchWithoutFalloff}
+use Rattle.motors.specs.Motor.{slotThrust, slotTorque, noFalloff, wrenchBy, wrenchWithoutFalloff}
 use Rattle.motors.specs.declared.Motors.{Motors}
 use Rattle.motors.proofs.Motors.wrench.Statement.{statement}
 use Rattle.motors.proofs.Motors.wrench.Tie as tie
@@ -15,7 +15,7 @@ use Rattle.motors.proofs.Motors.wrench.Tie as tie
 abbrev Inv-loop : tie.InvT-loop
 Inv-loop powers group running thrust-scale torques thrust-n₀ torque-nm₀ i₀ thrust-n torque-nm i =
     let m : Motors = record { group = group; running = running; «thrust_scale» = thrust-scale } in
-    (i ≤ 8) × (thrust-n ≡ sumTo (slotThrust m whole) i) × (torque-nm ≡ vecSumTo (slotTorque m whole) i)
+    (i ≤ 8) × (thrust-n ≡ sumTo (slotThrust m noFalloff) i) × (torque-nm ≡ vecSumTo (slotTorque m noFalloff) i)
 
 abbrev μ-loop : tie.MeasureT-loop
 μ-loop powers group running thrust-scale torques thrust-n₀ torque-nm₀ i₀ thrust-n torque-nm i = 8 - i
@@ -68,9 +68,10 @@ loop-again c =
     let i = s .loop .i in
     let one-n = c .before .before .before .still-thrust-n in (
       search needs,
-      sum-more (slotThrust (a .self) whole) i (s .loop .thrust-n) (one-n .result) (s .loop .inv .1) (one-n .ensures),
-      vec-sum-more (slotTorque (a .self) whole) i (s .loop .torque-nm) (c .before .scale .result) (c .add .result) (s .loop .inv .2)
-          (c .before .scale .ensures ∙ ap (scaleOf (vecAt (a .self .group .«torque_per_thrust_m») i)) {y = slotThrust (a .self) whole i} (one-n .ensures)) (c .add .ensures),
+      sum-more (slotThrust (a .self) noFalloff) i (s .loop .thrust-n) (one-n .result) (s .loop .inv .1) (one-n .ensures),
+      vec-sum-more (slotTorque (a .self) noFalloff) i (s .loop .torque-nm) (c .before .scale .result) (c .add .result) (s .loop .inv .2)
+          (c .before .scale .ensures ∙ ap (scaleOf (vecAt (a .self .group .«torque_per_thrust_m») i)) {y = slotThrust (a .self) noFalloff i}
+          (one-n .ensures)) (c .add .ensures),
     )
 
 returns : tie.Need-returns Inv-loop μ-loop

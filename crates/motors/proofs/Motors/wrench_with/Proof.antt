@@ -7,7 +7,7 @@ use borrow.Author.Needs.{needs}
 use Rattle.mixers.proofs.Slots.{sum-more, vec-sum-more}
 use Rattle.mixers.specs.Slots.{sumTo, vecAt, vecSumTo}
 use Rattle.vector.specs.Vector.{scaleOf}
-use Rattle.motors.specs.Motor.{leftBy, slotThrust, slotTorque, wrenchBy, wrenchWith}
+use Rattle.motors.specs.Motor.{falloffAt, slotThrust, slotTorque, wrenchBy, wrenchWith}
 use Rattle.motors.specs.declared.Motors.{Motors}
 use Rattle.motors.proofs.Motors.wrench_with.Statement.{statement}
 use Rattle.motors.proofs.Motors.wrench_with.Tie as tie
@@ -15,7 +15,7 @@ use Rattle.motors.proofs.Motors.wrench_with.Tie as tie
 abbrev Inv-loop : tie.InvT-loop
 Inv-loop falloff airspeed-mps powers group running thrust-scale torques thrust-n₀ torque-nm₀ i₀ thrust-n torque-nm i =
     let m : Motors = record { group = group; running = running; «thrust_scale» = thrust-scale } in
-    let left = leftBy falloff (group .layout) airspeed-mps in
+    let left = falloffAt falloff (group .layout) airspeed-mps in
     (i ≤ 8) × (thrust-n ≡ sumTo (slotThrust m left) i) × (torque-nm ≡ vecSumTo (slotTorque m left) i)
 
 abbrev μ-loop : tie.MeasureT-loop
@@ -67,12 +67,13 @@ loop-again c =
     let s = c .before .before .before .before .before .before in
     let a = s .before .before .before .before .before .before .args in
     let i = s .loop .i in
-    let left = leftBy (a .falloff) (a .self .group .layout) (a .airspeed-mps) in
+    let left = falloffAt (a .falloff) (a .self .group .layout) (a .airspeed-mps) in
     let one-n = c .before .before .before .motor-thrust-n in (
       search needs,
       sum-more (slotThrust (a .self) left) i (s .loop .thrust-n) (one-n .result) (s .loop .inv .1) (one-n .ensures),
       vec-sum-more (slotTorque (a .self) left) i (s .loop .torque-nm) (c .before .scale .result) (c .add .result) (s .loop .inv .2)
-          (c .before .scale .ensures ∙ ap (scaleOf (vecAt (a .self .group .«torque_per_thrust_m») i)) {y = slotThrust (a .self) left i} (one-n .ensures)) (c .add .ensures),
+          (c .before .scale .ensures ∙ ap (scaleOf (vecAt (a .self .group .«torque_per_thrust_m») i)) {y = slotThrust (a .self) left i}
+          (one-n .ensures)) (c .add .ensures),
     )
 
 returns : tie.Need-returns Inv-loop μ-loop

@@ -56,7 +56,8 @@ loop-again c =
     let a = s .before .before .before .args in
     let i = s .loop .i in
     fill-more nan _ _ (s .loop .out) i (c .spun .result)
-    (c .spun .ensures ∙ ap (λ (z : Float). spun (flagAt (a .self .motors .used) i) z (at (a .t3) i) (a .factor)) (s .loop .inv .left i (le-refl i))) (c .before .loop-test .taken) (s .loop .inv)
+    (c .spun .ensures ∙ ap (λ (z : Float). spun (flagAt (a .self .motors .used) i) z (at (a .t3) i) (a .factor)) (s .loop .inv .left i (le-refl i)))
+    (c .before .loop-test .taken) (s .loop .inv)
 
 returns : tie.Need-returns Inv-loop μ-loop
 unfolding rotorsSpun rotorsAt spinOf spinAt

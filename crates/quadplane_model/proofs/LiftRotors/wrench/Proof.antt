@@ -25,7 +25,16 @@ sub-requires c κs = search needs
 
 returns : tie.Need-returns
 unfolding liftWrench liftBy liftForce ofBits
-returns c = let t = c .before in let s = t .before .before .before .before in simp (t .sub .ensures, t .before .new2 .ensures, t .before .before .scale .ensures, s .new .ensures, s .before .wrench .ensures, s .before .before .at .ensures)
+returns c =
+    let t = c .before in let s = t .before .before .before .before in
+    simp (
+      t .sub .ensures,
+      t .before .new2 .ensures,
+      t .before .before .scale .ensures,
+      s .new .ensures,
+      s .before .wrench .ensures,
+      s .before .before .at .ensures,
+    )
 
 pub wrench-spec : {M : Type 1} → statement M
 wrench-spec =

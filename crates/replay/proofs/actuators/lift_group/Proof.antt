@@ -13,8 +13,8 @@ abbrev μ-loop : tie.MeasureT-loop
 live-requires : tie.Need-live-requires Inv-loop μ-loop
 live-requires c κs = search needs
 
-undriven-requires : tie.Need-undriven-requires Inv-loop μ-loop
-undriven-requires c κs = search needs
+empty-requires : tie.Need-empty-requires Inv-loop μ-loop
+empty-requires c κs = search needs
 
 loop-holds : tie.Need-loop-holds Inv-loop μ-loop
 loop-holds c = search needs
@@ -47,7 +47,7 @@ lift-group-spec =
     Inv-loop
     μ-loop
     live-requires
-    undriven-requires
+    empty-requires
     loop-holds
     mul-put-lift
     array-copy-out-put-lift

@@ -1,11 +1,12 @@
 -- `replay::flights::decode` meets its contract. Assumes nothing.
 use Prim.Native.Nat.{_-_, _/_, _≤_}
 use borrow.Author.Needs.{needs}
+use Rattle.lines.specs.Page.{pageBytes}
 use Rattle.replay.proofs.flights.decode.Statement.{statement}
 use Rattle.replay.proofs.flights.decode.Tie as tie
 
 abbrev Inv-loop : tie.InvT-loop
-Inv-loop line from to bytes₀ n i₀ bytes i = (i ≤ n) × (n ≤ 4096) × (n ≤ (to - from) / 2) × (to ≤ 65536)
+Inv-loop line from to bytes₀ n i₀ bytes i = (i ≤ n) × (n ≤ 4096) × (n ≤ (to - from) / 2) × (to ≤ pageBytes)
 
 abbrev μ-loop : tie.MeasureT-loop
 μ-loop line from to bytes₀ n i₀ bytes i = n - i

@@ -1,11 +1,12 @@
 -- `replay::flights::found` meets its contract. Assumes nothing.
 use Prim.Native.Nat.{_-_, _<_, _≤_}
 use borrow.Author.Needs.{needs}
+use Rattle.lines.specs.Page.{pageBytes}
 use Rattle.replay.proofs.flights.found.Statement.{statement}
 use Rattle.replay.proofs.flights.found.Tie as tie
 
 abbrev Inv-loop : tie.InvT-loop
-Inv-loop line from to out at i₀ i = (i ≤ to - from) × (from ≤ to) × (to ≤ 65536) × (to - from < 65536 - at)
+Inv-loop line from to out at i₀ i = (i ≤ to - from) × (from ≤ to) × (to ≤ pageBytes) × (to - from < 65536 - at)
 
 abbrev μ-loop : tie.MeasureT-loop
 μ-loop line from to out at i₀ i = to - from - i

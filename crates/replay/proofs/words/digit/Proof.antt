@@ -29,11 +29,28 @@ wide-requires-2 c κs = search needs
 
 returns-4 : tie.Need-returns-4
 unfolding digitOf
-returns-4 c = (simp (c .wide2 .ensures, lt-ltb _ _ (c .before .if4 .taken), le-ltb _ _ (c .before .before .if3 .left), le-ltb _ _ (c .before .before .before .if2 .left), le-ltb _ _ (c .before .before .before .before .if1 .left)), omega arith)
+returns-4 c = (
+  simp (
+    c .wide2 .ensures,
+    lt-ltb _ _ (c .before .if4 .taken),
+    le-ltb _ _ (c .before .before .if3 .left),
+    le-ltb _ _ (c .before .before .before .if2 .left),
+    le-ltb _ _ (c .before .before .before .before .if1 .left),
+  ),
+  omega arith,
+)
 
 returns-5 : tie.Need-returns-5
 unfolding digitOf
-returns-5 c = (simp (le-ltb _ _ (c .if4 .left), le-ltb _ _ (c .before .if3 .left), le-ltb _ _ (c .before .before .if2 .left), le-ltb _ _ (c .before .before .before .if1 .left)), omega arith)
+returns-5 c = (
+  simp (
+    le-ltb _ _ (c .if4 .left),
+    le-ltb _ _ (c .before .if3 .left),
+    le-ltb _ _ (c .before .before .if2 .left),
+    le-ltb _ _ (c .before .before .before .if1 .left),
+  ),
+  omega arith,
+)
 
 pub digit-spec : {M : Type 1} → statement M
 digit-spec =

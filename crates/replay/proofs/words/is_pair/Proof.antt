@@ -26,7 +26,12 @@ is-digit-requires-2 c κs = search needs
 
 returns-2 : tie.Need-returns-2
 unfolding isPair
-returns-2 c = simp (← c .is-digit2 .ensures, ← c .before .before .before .is-digit .ensures, not-false (c .before .before .before .is-digit .result) (c .before .before .if1 .left))
+returns-2 c =
+    simp (
+      ← c .is-digit2 .ensures,
+      ← c .before .before .before .is-digit .ensures,
+      not-false (c .before .before .before .is-digit .result) (c .before .before .if1 .left),
+    )
 
 pub is-pair-spec : {M : Type 1} → statement M
 is-pair-spec =

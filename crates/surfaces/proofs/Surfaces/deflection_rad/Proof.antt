@@ -1,4 +1,4 @@
--- `surfaces::Surfaces::deflection_rad` meets its contract: after i turns the sum is that of the first i slots. Assumes nothing.
+-- `surfaces::Surfaces::deflection_rad` meets its contract: after i iterations the sum is that of the first i slots. Assumes nothing.
 use Prim.Native.Nat.{_-_, _≤_}
 use mathlib.Core.Path.{_≡_}
 use native.Mathlib.Nat.{le-antisymm}
@@ -49,8 +49,11 @@ loop-less c = search needs
 loop-again : tie.Need-loop-again Inv-loop μ-loop
 unfolding deflectionAt
 loop-again c =
-    let s = c .before .before .before .before in
-    (search needs, vec-sum-more _ (s .loop .i) (s .loop .unit) (c .before .scale .result) (c .add .result) (s .loop .inv .1) (c .before .scale .ensures) (c .add .ensures))
+    let s = c .before .before .before .before in (
+      search needs,
+      vec-sum-more _ (s .loop .i) (s .loop .unit) (c .before .scale .result) (c .add .result) (s .loop .inv .1)
+          (c .before .scale .ensures) (c .add .ensures),
+    )
 
 component-mul-requires : tie.Need-component-mul-requires Inv-loop μ-loop
 component-mul-requires c κs = search needs

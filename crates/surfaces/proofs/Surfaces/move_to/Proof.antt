@@ -1,10 +1,10 @@
--- `surfaces::Surfaces::move_to` meets its contract: after i turns the first i slots are moved and the others as they were. Assumes nothing.
+-- `surfaces::Surfaces::move_to` meets its contract: after i iterations the first i slots are moved and the others as they were. Assumes nothing.
 use Prim.Native.Nat.{_-_}
 use lib.Ieee.{Float, nan, neg, ofBits}
 use mathlib.Core.Path.{_∙_, ap}
 use native.Mathlib.Nat.{le-refl}
 use borrow.Author.Needs.{needs}
-use Rattle.float.specs.Notation.{minusOne, nought, one}
+use Rattle.float.specs.Notation.{minusOne, zero, one}
 use Rattle.lag.specs.Lag.{approachSaturated}
 use Rattle.mixers.proofs.Slots.{Filled, fill-end, fill-more, fill-start}
 use Rattle.mixers.specs.Slots.{at}
@@ -55,7 +55,8 @@ loop-again c =
     let a = s .before .before .args in
     let i = s .loop .i in
     fill-more nan (moveAt (a .self) (a .t2) (a .factor)) (a .self .running) (s .loop .running) i (c .approach-saturated .result)
-    (c .approach-saturated .ensures ∙ ap (λ (z : Float). approachSaturated z (at (a .t2) i) minusOne one nought (a .factor)) (s .loop .inv .left i (le-refl i))) (c .before .loop-test .taken) (s .loop .inv)
+    (c .approach-saturated .ensures ∙ ap (λ (z : Float). approachSaturated z (at (a .t2) i) minusOne one zero (a .factor))
+    (s .loop .inv .left i (le-refl i))) (c .before .loop-test .taken) (s .loop .inv)
 
 returns : tie.Need-returns Inv-loop μ-loop
 unfolding moveTo

@@ -19,7 +19,13 @@ at-least-zero-requires-2 c κs = search needs
 
 returns : tie.Need-returns
 unfolding washOf washByPressure flowMps ofBits
-returns c = simp (c .before .before .before .before .at-least-zero2 .ensures, c .before .before .before .before .before .before .sqrtf .ensures, c .before .before .before .before .before .before .before .at-least-zero .ensures, c .before .before .before .before .before .before .before .before .added-pa .ensures)
+returns c =
+    simp (
+      c .before .before .before .before .at-least-zero2 .ensures,
+      c .before .before .before .before .before .before .sqrtf .ensures,
+      c .before .before .before .before .before .before .before .at-least-zero .ensures,
+      c .before .before .before .before .before .before .before .before .added-pa .ensures,
+    )
 
 pub wash-spec : {M : Type 1} → statement M
 wash-spec =
