@@ -2,3 +2,5 @@
 pub mod TickLogs
 pub mod Openings
 pub mod Texts
+pub mod Numbers
+pub mod Theorem

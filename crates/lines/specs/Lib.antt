@@ -5,3 +5,6 @@ pub mod TickLog
 pub mod Opening
 pub mod Text
 pub mod Page
+pub mod Compare
+pub mod Tracks
+pub mod Verdict

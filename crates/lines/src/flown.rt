@@ -54,6 +54,7 @@ pub fn fly_ticks(a: Airframe, p: Flown, trace: &[u8], out: &mut [u8; PAGE_BYTES]
     ensures flight { λ r. ⌜ r .flight ≡ logOver a p (now (trace .entry)) .flight ⌝ }
     ensures index { λ r. ⌜ r .index ≡ logOver a p (now (trace .entry)) .index ⌝ }
     ensures end { λ r. ⌜ r .at ≡ length (logOver a p (now (trace .entry)) .text) ⌝ ∗ ⌜ r .at + lineBytes ≤ pageBytes ⌝ }
+    ensures room { λ r. ⌜ r .at ≤ 2 * length (now (trace .entry)) ⌝ }
 {
     let count = trace::tick_count(trace);
     let mut flown = p;

@@ -2,7 +2,6 @@
 ghost use mathlib.Core.Path.{_≡_};
 ghost use Prim.Native.Nat.{_+_, _<_, _≤_};
 ghost use Rattle.replay.specs.Words.{isDigit, digitOf, isPair, pairOf, isWord, wordOf};
-use lines::PAGE_BYTES;
 
 fn wide(b: u8) -> u32
     ensures { λ r. ⌜ r ≡ b ⌝ }
@@ -84,5 +83,5 @@ pub fn word(s: &[u8], i: usize) -> u32
     requires { do ⌜ i + 8 ≤ (← ⟦s.len()⟧) ⌝ }
     ensures { λ r. ⌜ r ≡ wordOf (now (s .entry)) i ⌝ }
 {
-    pair(s, i) * 16777216 + pair(s, i + 2) * PAGE_BYTES + pair(s, i + 4) * 256 + pair(s, i + 6)
+    pair(s, i) * 16777216 + pair(s, i + 2) * 65536 + pair(s, i + 4) * 256 + pair(s, i + 6)
 }

@@ -1,3 +1,0 @@
--- Laws of the comparison.
-pub mod Numbers
-pub mod Theorem
