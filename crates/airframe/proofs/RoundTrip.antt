@@ -13,7 +13,7 @@ use Rattle.float.specs.Lists.{listFrom, listOf}
 use Rattle.mixers.specs.Slots.{at}
 use Rattle.motors.specs.declared.MotorGroup.{MotorGroup}
 use Rattle.vector.specs.declared.Vec3.{Vec3}
-use Rattle.airframe.specs.FromNumbers.{airframeOf, coefficientsOf, falloffOf, liftConstant, liftLayoutOf, modelOf, motorConstant, motorLayoutOf, washOf}
+use Rattle.airframe.specs.FromNumbers.{airframeOf, coefficientsOf, falloffOf, liftConstant, liftLayoutOf, modelOf, motorConstant, motorLayoutOf, washFrom}
 use Rattle.airframe.specs.Numbers.{baseNumbers, coefficientNumbers, falloffNumber, liftNumbers, numbersCount, numbersOf, washNumbers}
 use Rattle.airframe.specs.declared.Airframe.{Airframe}
 
@@ -38,7 +38,7 @@ pub numbers-again : (xs : List Float) (kind : ℕ) (wash lift : Bool) (motors ro
     → length xs ≡ numbersCount
     → MadeWith xs motors rotors
     → numbersOf (airframeOf xs kind wash lift motors weights rotors) ≡ xs
-unfolding airframeOf numbersOf baseNumbers coefficientNumbers washNumbers liftNumbers modelOf coefficientsOf washOf motorLayoutOf liftLayoutOf listOf listFrom
+unfolding airframeOf numbersOf baseNumbers coefficientNumbers washNumbers liftNumbers modelOf coefficientsOf washFrom motorLayoutOf liftLayoutOf listOf listFrom
 numbers-again xs kind wash lift motors rotors weights n made =
     simp (made .layout, made .constant, made .lift-layout, made .lift-constant, falloff-number) (listOf-again nan xs numbersCount n)
 
@@ -46,5 +46,5 @@ numbers-again xs kind wash lift motors rotors weights n made =
 pub airframe-again : (a : Airframe) (kind : ℕ)
     → falloffOf kind (falloffNumber (a .model .«thrust_falloff»)) ≡ a .model .«thrust_falloff»
     → airframeOf (numbersOf a) kind (a .«wash_present») (a .«lift_present») (a .motors) (a .weights) (a .lift .motors) ≡ a
-unfolding airframeOf numbersOf baseNumbers coefficientNumbers washNumbers liftNumbers modelOf coefficientsOf washOf
+unfolding airframeOf numbersOf baseNumbers coefficientNumbers washNumbers liftNumbers modelOf coefficientsOf washFrom
 airframe-again a kind e = simp e

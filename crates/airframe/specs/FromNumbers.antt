@@ -77,8 +77,8 @@ modelOf xs kind = record {
 }
 
 -- the wash, 42 to 48
-unfoldable pub washOf : List Float → PropWash
-washOf xs = record {
+unfoldable pub washFrom : List Float → PropWash
+washFrom xs = record {
   «disc_area_m2» = place xs 42;
   «surface_fraction» = place xs 43;
   «roll_fraction» = place xs 44;
@@ -123,7 +123,7 @@ unfoldable pub airframeOf : List Float → ℕ → Bool → Bool → MotorGroup 
 airframeOf xs kind wash lift motors weights rotors = record {
   model = modelOf xs kind;
   «wash_present» = wash;
-  wash = washOf xs;
+  wash = washFrom xs;
   motors = motors;
   weights = weights;
   «lift_present» = lift;

@@ -266,7 +266,7 @@ impl Airframe {
         ensures { λ r. ⌜ r ≡ FromNumbers.airframeOf xs kind «wash_present» «lift_present» motors weights rotors ⌝ }
     {
         let model = model_of(xs, kind);
-        let wash = wash_of(xs);
+        let wash = wash_from(xs);
         let lift = LiftRotors {
             motors: rotors,
             drag_per_thrust_n_per_mps: xs[LIFT_DRAG],
@@ -367,8 +367,8 @@ fn model_of(xs: [f32; NUMBERS], kind: u8) -> FixedWingModel
 }
 
 // The wash of the numbers by place.
-fn wash_of(xs: [f32; NUMBERS]) -> PropWash
-    ensures { λ r. ⌜ r ≡ FromNumbers.washOf xs ⌝ }
+fn wash_from(xs: [f32; NUMBERS]) -> PropWash
+    ensures { λ r. ⌜ r ≡ FromNumbers.washFrom xs ⌝ }
 {
     PropWash {
         disc_area_m2: xs[DISC_AREA],

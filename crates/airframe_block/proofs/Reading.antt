@@ -12,7 +12,7 @@ use mathlib.Core.Path.{_≡_, refl}
 use native.Mathlib.Omega.{arith}
 use Rattle.airframe.proofs.Parts.{rows-apart}
 use Rattle.airframe.specs.Acceptance.{lowestPlace, refusedPlace}
-use Rattle.airframe.specs.FromNumbers.{liftConstant, liftDrag, liftLayoutOf, washOf, zeroAirframe}
+use Rattle.airframe.specs.FromNumbers.{liftConstant, liftDrag, liftLayoutOf, washFrom, zeroAirframe}
 use Rattle.airframe.specs.Numbers.{zeroNumbers}
 use Rattle.airframe.specs.declared.Airframe.{Airframe}
 use Rattle.answers.specs.declared.Answer.{Answer}
@@ -117,11 +117,11 @@ pub refused-is-zero : (s : List ℕ) → (readAirframeOf s .answer ≡ Done → 
 refused-is-zero s e = refused-of (readAirframeOf s) (read-outcome s) e
 
 -- the numbers of a wash that is not there are zeros (01, module 5)
-pub absent-wash : (s : List ℕ) (h : Header) → h .wash ≡ false → washOf (numbersFrom s h) ≡ washOf zeroNumbers
-unfolding washOf numbersFrom segmentsOf putSegments putSegment putNumbers
+pub absent-wash : (s : List ℕ) (h : Header) → h .wash ≡ false → washFrom (numbersFrom s h) ≡ washFrom zeroNumbers
+unfolding washFrom numbersFrom segmentsOf putSegments putSegment putNumbers
 absent-wash s h e = go (h .lift) refl
   where
-    go : (t : Bool) → h .lift ≡ t → washOf (numbersFrom s h) ≡ washOf zeroNumbers
+    go : (t : Bool) → h .lift ≡ t → washFrom (numbersFrom s h) ≡ washFrom zeroNumbers
     go true l = simp (e, l)
     go false l = simp (e, l)
 

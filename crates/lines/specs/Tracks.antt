@@ -99,16 +99,16 @@ textFlown a p s = shownOver a (tracksOf p) (ticksOf s) .text
 
 -- ---- a page of a program: with its reflection beside the flight, or the flight alone, whose ticks are counted
 
--- the flight of the tracks
-abbrev flightOf : Track → Flown
-flightOf p = record { flight = p .first; index = p .ticks; at = 0 }
+-- the flight of the tracks, alone
+abbrev alone : Track → Flown
+alone p = record { flight = p .first; index = p .ticks; at = 0 }
 
 -- the tracks after a page of the flight alone
 abbrev tracksAlone : Airframe → Track → List ℕ → Tracks
 tracksAlone a p s = record {
-  first = logOver a (flightOf p) s .flight;
+  first = logOver a (alone p) s .flight;
   second = p .second;
-  ticks = logOver a (flightOf p) s .index;
+  ticks = logOver a (alone p) s .index;
   accepted = p .accepted;
   mirrored = p .«accepted_mirrored»;
   differs = p .differs;
@@ -118,4 +118,4 @@ unfoldable pub tracksOver : Bool → Airframe → Track → List ℕ → Tracks
 tracksOver beside a p s = cond beside (tracksFlown a p s) (tracksAlone a p s)
 
 unfoldable pub pageText : Bool → Airframe → Track → List ℕ → List ℕ
-pageText beside a p s = cond beside (textFlown a p s) (logOver a (flightOf p) s .text)
+pageText beside a p s = cond beside (textFlown a p s) (logOver a (alone p) s .text)

@@ -13,14 +13,11 @@ mod text;
 mod track;
 mod verdict;
 
-pub use digits::put_decimal;
 pub use flown::Flown;
 pub use flown::fly_ticks;
 pub use flown::start;
-pub use line::put_line;
 pub use opening::airframe_wanted;
 pub use page::PAGE_BYTES;
 pub use page::put_end;
 pub use page::put_refusal;
 pub use program::fly_file;
-pub use text::put_text;

@@ -140,7 +140,7 @@ pub record RunRel (r r' : RunResult) : Type 0 where
 -- What `mirrored_pair` promises of the two runs it flies over the bytes of T: both are demand 2's, the second over the bytes with
 -- each wind east's sign bit flipped, which are the bytes of T'; what they hand back mirrors; and demand 3 of A and S, over the
 -- trace's ticks and over every other list.
-pub record Flown (a : Airframe) (s : Flight) (trace : List ℕ) (r : Pair) : Type 0 where
+pub record PairPromise (a : Airframe) (s : Flight) (trace : List ℕ) (r : Pair) : Type 0 where
   pub first : r .first ≡ runResultOf a s trace
   pub second : r .second ≡ runResultOf (reflectAirframe a) (reflectFlight s) (reflectTrace trace)
   pub ticks : ticksOf (reflectTrace trace) ≡ map reflectTick (ticksOf trace)

@@ -35,7 +35,7 @@ pub fn run(a: Airframe, f: Flight, trace: &[u8]) -> RunResult
 
 // Flies the trace and, from the reflected state with the reflected airframe, its reflection.
 pub fn mirrored_pair(a: Airframe, f: Flight, trace: &[u8]) -> Pair
-    ensures { λ r. ⌜ Mirrored.Flown a f (now (trace .entry)) r ⌝ }
+    ensures { λ r. ⌜ Mirrored.PairPromise a f (now (trace .entry)) r ⌝ }
 {
     let first = run_track(a, f, trace, false);
     let second = run_track(a.reflected(), f.reflected(), trace, true);

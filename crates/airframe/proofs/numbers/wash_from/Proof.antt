@@ -1,9 +1,9 @@
--- `airframe::numbers::wash_of` meets its contract. Assumes nothing.
+-- `airframe::numbers::wash_from` meets its contract. Assumes nothing.
 use mathlib.Core.Path.{refl}
 use borrow.Author.Needs.{needs}
-use Rattle.airframe.specs.FromNumbers.{washOf}
-use Rattle.airframe.proofs.numbers.wash_of.Statement.{statement}
-use Rattle.airframe.proofs.numbers.wash_of.Tie as tie
+use Rattle.airframe.specs.FromNumbers.{washFrom}
+use Rattle.airframe.proofs.numbers.wash_from.Statement.{statement}
+use Rattle.airframe.proofs.numbers.wash_from.Tie as tie
 
 array-read-t5 : tie.Need-array-read-t5
 array-read-t5 c = search needs
@@ -27,11 +27,11 @@ array-read-t23 : tie.Need-array-read-t23
 array-read-t23 c = search needs
 
 returns : tie.Need-returns
-unfolding washOf
+unfolding washFrom
 returns c = refl
 
-pub wash-of-spec : {M : Type 1} → statement M
-wash-of-spec =
+pub wash-from-spec : {M : Type 1} → statement M
+wash-from-spec =
     tie.close
     (tie.spec
     array-read-t5
