@@ -99,7 +99,7 @@ rest-le v p h k = go (r .sign) (r .size) (r .is) (r .val) (ltb (nn v) (pp v + de
         add-mono binary32 v one (sub binary32 one v) zero p tt (rest-finite v p h k) tt k
         (rw (e, round-minus binary32 z (1 * den v)) (over-le (round binary32 false z (1 * den v)) zero (round-over binary32 z (1 * den v)) tt))
 
--- the same below, with all signs rotated
+-- the same below, with all signs reversed
 rest-finite-low : (v : Float) → T (finite v) → T (le minusOne v) → T (le v one) → T (finite (sub binary32 minusOne v))
 unfolding le sub
 rest-finite-low v p h k =

@@ -1,4 +1,4 @@
--- The shift of the table of powers: what stands at each, at which of them an exponent's power stands, that exp reads each of them,
+-- The entries of the table of powers: what each is, at which index an exponent's power stands, that exp reads each of them,
 -- and that exp answers what it did when the power was made from its bits, for every argument. Assumes nothing.
 use Prim.Native.Nat.{_*_, _+_, _-_, _<_, suc, ℕ}
 use lib.Dec.{leb→le}

@@ -1,4 +1,4 @@
--- The quarter binaryExponent as the code holds them are those of the definition. Within size 4 what is cut lies from -3.5 to 3.5,
+-- The quarter turns as the code holds them are those of the definition. Within size 4 what is cut lies from -3.5 to 3.5,
 -- so the cut is a whole number from -3 to 3, and each of the seven falls into
 -- its quadrant. Assumes nothing.
 use Prim.Native.Nat as Nat

@@ -48,7 +48,7 @@ minus-binary a b h k = go (leb b a) (leb→le b a) (nleb→lt b a)
     go true l g = record { at-least = tt; at-most = le→leb (a - b) 128 (omega arith) }
     go false l g = let u = g tt in record { at-least = le→leb (b - suc a) 148 (omega arith); at-most = tt }
 
--- ---- w lowered by k shift against c / 2 ^ (j + 1)
+-- ---- w lowered by k binary digits against c / 2 ^ (j + 1)
 less-lowered : (w k c j : ℕ) → lt (fin false w (minus 0 k)) (fin false c (negsuc j)) ≡ ltb (w * 2 ^ suc j) (c * 2 ^ k)
 unfolding lt
 less-lowered w zero c j = ap (λ (x : ℕ). ltb (x * 2 ^ suc j) (c * 1 * 1)) (mul-one w) ∙ ap (λ (x : ℕ). ltb (w * 2 ^ suc j) x) (mul-one (c * 1))
@@ -83,7 +83,7 @@ module _ (w : ℕ) (some : 0 < w) where
           (omega (arith, reaches), omega (arith, u, doubled))
       go false h = (nltb→le (w * 16777216) (11863283 * 2 ^ size w) (rw h tt), omega (arith, size-lt w))
 
-  -- there is one such number of shift only
+  -- there is one such shift only
   closer : (a b : ℕ) → 11863283 * 2 ^ a ≤ w * 16777216 → w * 8388608 < 11863283 * 2 ^ b → a ≤ b
   closer a b h k =
       le-of-suc-le-suc (lt-of-not-le (λ (g : suc b ≤ a). far (2 ^ a) (2 ^ b)
@@ -125,7 +125,7 @@ split-exact (fin s w e) =
     let k = pos (shift w) in
     ap (λ (z : ℤ). fin s w z) (ap (λ (z : ℤ). z +ℤ (e +ℤ k)) (below-zero (shift w)) ∙ +ℤ-comm (negℤ k) (e +ℤ k) ∙ +ℤ-negℤ-cancel e k)
 
--- ---- of q = w · 2 ^ z: the shift are those of q as it stands
+-- ---- of q = w · 2 ^ z: the shift is that of q as it stands
 shift-at : (q z w k n : ℕ) → 0 < w → w * 2 ^ z ≡ q → 2 ^ k * 2 ^ z ≡ n → 11863283 * n ≤ q * 16777216 → q * 8388608 < 11863283 * n → shift w ≡ k
 shift-at q z w k n p e f h l = shift-only w p k (low (2 ^ k) (2 ^ z) e f (pow-pos z)) (high (2 ^ k) (2 ^ z) e f)
   where

@@ -12,7 +12,7 @@ use Rattle.libm.specs.Exp.{binaryExponent}
 use Rattle.libm.specs.Log.{exponentOf, mantissaOf}
 use Rattle.libm.specs.Trig.{cosNear, quarterTurn, sinNear}
 
--- ---- exp: the binaryExponent of an x from -87 to 88 are an exponent from -126 to 127
+-- ---- exp: the binary exponent of an x from -87 to 88 is from -126 to 127
 pub record Exponent (k : ℤ) : Type 0 where
   pub at-least : T (leZ (negsuc 125) k)
   pub at-most : T (leZ k (pos 127))
@@ -31,7 +31,7 @@ pub record SplitOf (v m : Float) (n : ℤ) : Type 0 where
   pub is-exponent : n ≡ exponentOf v
   pub in-range : Binary n
 
--- ---- sin and cos: the quarter binaryExponent as the code holds them, a float that is a whole number
+-- ---- sin and cos: the quarter turns as the code holds them, a float that is a whole number
 unfoldable pub wholeQuarters : Float → Float
 wholeQuarters x = wholePart (cond (le zero x) (x ⊗ quarterTurn ⊕ half) (x ⊗ quarterTurn ⊖ half))
 

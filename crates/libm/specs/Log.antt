@@ -10,7 +10,7 @@ use Rattle.libm.specs.Exp.{horner}
 abbrev pub least : Float
 least = rounded 70710677 100000000
 
--- By how many binary shift w is lowered to become m. Lowered by as many as it has digits it lies from 1 / 2 to below 1; under 0.70710677
+-- By how many binary digits w is lowered to become m. Lowered by as many as it has digits it lies from 1 / 2 to below 1; under 0.70710677
 -- that is one too many.
 unfoldable pub shift : ℕ → ℕ
 shift w = cond (lt (fin false w (minus 0 (size w))) least) (size w - 1) (size w)

@@ -9,7 +9,7 @@ use Rattle.wing.specs.Tick.{tickOf}
 use Rattle.lines.specs.TickLog.{TickLog, logFrom, logOn, oneMore, tickText}
 use Rattle.lines.proofs.Texts.{Put, nothing-put, same-text, then}
 
--- after the leg l the state is f, the last index is `index`, and the lines on the page q, which was `page`, end at `at`
+-- after the ticks of the log l the state is f, the last index is `index`, and the lines on the page q, which was `page`, end at `at`
 pub record Reached (page : List ℕ) (l : TickLog) (f : Flight) (index : ℕ) (q : List ℕ) (at : ℕ) : Type 0 where
   pub flight : f ≡ l .flight
   pub count : index ≡ l .index
@@ -19,7 +19,7 @@ pub reached-none : (page : List ℕ) (f : Flight) (index : ℕ) → Reached page
 unfolding logFrom
 reached-none page f index = record { flight = refl; count = refl; put = nothing-put page 0 }
 
--- one tick more, which makes the leg l the leg m
+-- one tick more, which makes the log l the log m
 pub reached-more :
     (a : Airframe) {page : List ℕ} {l m : TickLog} {f g : Flight} {index next : ℕ} {q r : List ℕ} {at end : ℕ} {t u : Tick}
     → logOn a l u ≡ m → Reached page l f index q at → t ≡ u → g ≡ tickOf a f t .flight → next ≡ oneMore index

@@ -4,7 +4,7 @@
 -- carried: it is made anew of its relation.
 -- State what an iteration begins with: the index, the mix so far, and that what is left of the list makes of that mix what the whole list
 -- makes of the one at the start
--- Inv the context at the loop's head, at a state. iterate an iteration from it: `more` at an index below the count, `ends` at the count,
+-- Inv the context at the loop's head, at a state. `iterate` an iteration from it: `more` at an index below the count, `ends` at the count,
 -- with the rest of the body
 -- Assumes nothing.
 use mathlib.Core.Path.{_≡_, refl, sym, ap, _∙_, subst}
