@@ -1,3 +1,4 @@
 -- Laws of the aerodynamics.
 pub mod Mirror
 pub mod Range
+pub mod Book

@@ -1,44 +1,44 @@
 -- The aerodynamic wrench (01, module 6). The air's density is an argument, and so is the wash (module 5). Definitions only.
 use lib.Ieee.{Float, binary32, lt, neg}
 use mathlib.Core.Bool.{cond}
+use Rattle.book.specs.Formulas as formulas
+use Rattle.book.specs.Numbers.{floats}
 use Rattle.fixed_wing.specs.declared.FixedWingModel.{FixedWingModel}
-use Rattle.float.specs.Notation.{_⊕_, _⊖_, _⊗_, _⊘_, atLeastZero, clamp, half, zero, one, two}
+use Rattle.float.specs.Notation.{_⊕_, _⊗_, _⊘_, atLeastZero, clamp, one, zero}
 use Rattle.libm.specs.Atan.{asinOf, atan2Of}
 use Rattle.libm.specs.Sqrt.{sqrtOf}
 use Rattle.libm.specs.Trig.{cosOf, sinOf}
 use Rattle.tailsitter_model.specs.declared.Wash.{Wash}
 use Rattle.vector.specs.Vector.{addOf, normOf, scaleOf, vec}
 use Rattle.vector.specs.declared.Vec3.{Vec3}
-use Rattle.aero.specs.Coefficients.{dragCoefficient, flatPlateDrag, liftCoefficient, linearLift, pitchCoefficient, stallBlend}
+use Rattle.aero.specs.Coefficients.{dragCoefficient, flatPlateDrag, liftCoefficient, pitchCoefficient, stallBlend}
 use Rattle.aero.specs.declared.Aero.{Aero}
 use Rattle.aero.specs.declared.Flow.{Flow}
 
 -- ---- pressures
 -- dynamic pressure times wing area: ½ ρ V² S
 unfoldable pub pressureArea : FixedWingModel → Float → Float → Float
-pressureArea m v density = half ⊗ density ⊗ v ⊗ v ⊗ m .«wing_area_m2»
+pressureArea m v density = formulas.pressureArea floats density v (m .«wing_area_m2»)
 
 -- the wash's, per unit of airspeed: ½ ρ V S
 unfoldable pub washRateScale : FixedWingModel → Wash → Float → Float
-washRateScale m w density = half ⊗ density ⊗ w .«damping_mps» ⊗ m .«wing_area_m2»
+washRateScale m w density = formulas.washScale floats density (w .«damping_mps») (m .«wing_area_m2»)
 
 -- what the surfaces see: the free stream's and the wash's, not below 0
 unfoldable pub withWash : Float → Float → Float → Float
-withWash free pa area = atLeastZero (free ⊕ pa ⊗ area)
+withWash free pa area = formulas.surfacePressure floats atLeastZero free pa area
 
--- ---- rate terms, by chapter 4 of Beard and McLain's book (as commonly quoted: docs/DIFFERENCES.md):
--- ½ρV²S·b·(Clp (b/2V) p + Clr (b/2V) r), ½ρV²S·c·Cmq (c/2V) q
--- departs: nothing is divided by V, the scale being ½ρVS; and the wash adds a scale of its own, in still air too
+-- ---- rate terms: the scale is ½ρV²S / V of the free stream, and the wash's ½ρuS by its own speed u, in still air too
 unfoldable pub rateMoments : FixedWingModel → Float → Vec3 → Vec3
 rateMoments m scale rates =
     vec
-    (scale ⊗ m .«span_m» ⊗ m .«span_m» ⊘ two ⊗ (m .aero .«c_roll_p» ⊗ rates .x ⊕ m .aero .«c_roll_r» ⊗ rates .z))
-    (scale ⊗ m .«chord_m» ⊗ m .«chord_m» ⊘ two ⊗ m .aero .«c_pitch_q» ⊗ rates .y)
-    (scale ⊗ m .«span_m» ⊗ m .«span_m» ⊘ two ⊗ (m .aero .«c_yaw_p» ⊗ rates .x ⊕ m .aero .«c_yaw_r» ⊗ rates .z))
+    (formulas.twoRates floats scale (m .«span_m») (m .aero .«c_roll_p») (m .aero .«c_roll_r») (rates .x) (rates .z))
+    (formulas.oneRate floats scale (m .«chord_m») (m .aero .«c_pitch_q») (rates .y))
+    (formulas.twoRates floats scale (m .«span_m») (m .aero .«c_yaw_p») (m .aero .«c_yaw_r») (rates .x) (rates .z))
 
 -- ---- the surfaces: aileron (x), elevator (y), rudder (z); the aileron's under `roll`, the others' under `area`
 unfoldable pub aileronMoment : FixedWingModel → Float → Vec3 → Vec3
-aileronMoment m roll d = vec (roll ⊗ m .«span_m» ⊗ m .aero .«c_roll_aileron» ⊗ d .x) zero zero
+aileronMoment m roll d = vec (formulas.moment floats roll (m .«span_m») (m .aero .«c_roll_aileron») (d .x)) zero zero
 
 unfoldable pub elevatorAndRudder : FixedWingModel → Vec3 → Vec3
 elevatorAndRudder m d =
@@ -80,7 +80,6 @@ stallWash m f area w =
     zero
 
 -- ---- what lift, drag and pitch go by: α = atan2(w, u), and the pressure of √(u² + w²), the speed in the plane of symmetry
--- departs: the book takes the whole airspeed's pressure for them
 unfoldable pub symmetricSpeed : Vec3 → Float
 symmetricSpeed air = sqrtOf binary32 (air .x ⊗ air .x ⊕ air .z ⊗ air .z)
 
@@ -106,23 +105,22 @@ flowLift m f = f .«symmetric_area_n» ⊗ liftCoefficient (m .aero) (f .«alpha
 
 unfoldable pub flowDrag : FixedWingModel → Flow → Float
 flowDrag m f =
-    f .«symmetric_area_n» ⊗ (one ⊖ f .blend) ⊗ dragCoefficient m (linearLift (m .aero) (f .«alpha_rad»))
-    ⊕ f .«symmetric_area_n» ⊗ f .blend ⊗ flatPlateDrag (m .aero) (f .«sin_alpha»)
+    formulas.blendedDrag floats (f .«symmetric_area_n») (f .blend) (dragCoefficient m (f .«alpha_rad»)) (flatPlateDrag (m .aero) (f .«sin_alpha»))
 
 unfoldable pub flowForce : FixedWingModel → Flow → Float → Vec3
 flowForce m f side =
     vec
-    (flowLift m f ⊗ f .«sin_alpha» ⊖ flowDrag m f ⊗ f .«cos_alpha»)
+    (formulas.forward floats (flowLift m f) (flowDrag m f) (f .«sin_alpha») (f .«cos_alpha»))
     side
-    (neg (flowLift m f) ⊗ f .«cos_alpha» ⊖ flowDrag m f ⊗ f .«sin_alpha»)
+    (formulas.down floats (flowLift m f) (flowDrag m f) (f .«sin_alpha») (f .«cos_alpha»))
 
 -- ---- static moments; the pressure of the whole airspeed for the sideslip terms
 unfoldable pub staticMoments : FixedWingModel → Flow → Float → Float → Vec3
 staticMoments m f area beta =
     vec
-    (area ⊗ m .«span_m» ⊗ m .aero .«c_roll_beta» ⊗ beta)
+    (formulas.moment floats area (m .«span_m») (m .aero .«c_roll_beta») beta)
     (f .«symmetric_area_n» ⊗ m .«chord_m» ⊗ pitchCoefficient (m .aero) (f .«alpha_rad») (f .blend) (f .«sin_alpha») (f .«cos_alpha»))
-    (area ⊗ m .«span_m» ⊗ m .aero .«c_yaw_beta» ⊗ beta)
+    (formulas.moment floats area (m .«span_m») (m .aero .«c_yaw_beta») beta)
 
 -- ---- the whole
 unfoldable pub withSurfaces : Vec3 → Vec3 → Aero → Float → Float → Aero
@@ -135,12 +133,12 @@ withSurfaces force torque s alpha beta = record {
 
 -- past the stall the surfaces lose a share of the free stream
 unfoldable pub surfaceFree : FixedWingModel → Flow → Float → Float
-surfaceFree m f area = area ⊗ (one ⊖ m .aero .«surface_stall_share» ⊗ f .blend)
+surfaceFree m f area = formulas.surfaceFree floats area (m .aero .«surface_stall_share») (f .blend)
 
 unfoldable pub torqueAt : FixedWingModel → Float → Flow → Float → Vec3 → Wash → Float → Float → Vec3
 torqueAt m speed f beta rates w density area =
     addOf (addOf (addOf (staticMoments m f area beta) (washPitch m w)) (stallWash m f area w))
-    (rateMoments m (area ⊘ speed ⊕ washRateScale m w density) rates)
+    (rateMoments m (formulas.rateScale floats area speed (washRateScale m w density)) rates)
 
 unfoldable pub movingAt : FixedWingModel → Float → Flow → Float → Vec3 → Vec3 → Wash → Float → Float → Aero
 movingAt m speed f beta rates d w density area =

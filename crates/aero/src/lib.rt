@@ -2,6 +2,7 @@
 ghost use mathlib.Core.Path.{_≡_};
 ghost use Rattle.aero.specs.Coefficients as Coefficients;
 ghost use Rattle.aero.specs.Wrench as Wrench;
+ghost use Rattle.book.specs.Numbers as Numbers;
 ghost use Rattle.libm.specs.Powers.{powersOfTwo};
 use fixed_wing::AeroCoefficients;
 use fixed_wing::FixedWingModel;
@@ -198,7 +199,7 @@ fn flow_drag_n(model: FixedWingModel, flow: Flow) -> f32
 {
     let c = model.aero;
     let blend = flow.blend;
-    let attached = drag_coefficient(model, linear_lift(c, flow.alpha_rad));
+    let attached = drag_coefficient(model, flow.alpha_rad);
     flow.symmetric_area_n * (1.0 - blend) * attached
         + flow.symmetric_area_n * blend * flat_plate_drag(c, flow.sin_alpha)
 }
@@ -384,17 +385,18 @@ fn lift_coefficient(
 }
 
 // The attached wing's drag: parasitic, and induced by its lift.
-fn drag_coefficient(model: FixedWingModel, linear_lift: f32) -> f32
-    ensures { λ r. ⌜ r ≡ Coefficients.dragCoefficient model «linear_lift» ⌝ }
+fn drag_coefficient(model: FixedWingModel, alpha_rad: f32) -> f32
+    ensures { λ r. ⌜ r ≡ Coefficients.dragCoefficient model «alpha_rad» ⌝ }
 {
     let c = model.aero;
+    let lift = linear_lift(c, alpha_rad);
     let aspect_ratio = fixed_wing::aspect_ratio(model.span_m, model.wing_area_m2);
-    c.c_drag_0 + linear_lift * linear_lift / (PI * c.oswald * aspect_ratio)
+    c.c_drag_0 + lift * lift / (PI * c.oswald * aspect_ratio)
 }
 
 // The sign of x as 1 or -1, of a zero 1; a NaN's is a NaN.
 fn sign(x: f32) -> f32
-    ensures { λ r. ⌜ r ≡ Coefficients.signOf x ⌝ }
+    ensures { λ r. ⌜ r ≡ Numbers.signOf x ⌝ }
 {
     if x < 0.0 {
         return -1.0;

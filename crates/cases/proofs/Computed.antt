@@ -1,7 +1,8 @@
 -- Every case of the table holds: computed. Assumes nothing.
 use lib.Dec.{T}
 use lib.Ieee.{add, div, eq, le, lt, mul, ne, neg, ofBits, ofInt, round, sub, toBits, toSigned}
-use Rattle.aero.specs.Coefficients.{exponent, pastNegative, pastPositive, sigmoid, stallBlend}
+use Rattle.aero.specs.Coefficients.{hold, stallBlend}
+use Rattle.book.specs.Equations as book
 use Rattle.fixed_wing.specs.Falloff.{falloffShare, linearShare, pitchSpeedShare}
 use Rattle.float.specs.Notation.{atLeastZero, clamp, abs}
 use Rattle.float.specs.Same.{num}
@@ -18,7 +19,7 @@ use Rattle.cases.specs.Table.{allHold, blunt, disc, holds, oneServo, tab
 
 pub all-hold : T (allHold table)
 unfolding allHold holds table blunt disc oneServo num toBits approachOf approachSaturated saturated clamp falloffShare
-    pitchSpeedShare linearShare atLeastZero stallBlend sigmoid pastPositive pastNegative exponent expOf core poly expSeries horner
+    pitchSpeedShare linearShare atLeastZero stallBlend book.blend hold expOf core poly expSeries horner
     rest binaryExponent near-up near-down atan2Of offOrigin sided beyond angleOf atanNear atanPoly abs surfacesOf weighed factorsOf
     putTo liveOf putServoRow putServoAt putServo weightAt componentMul inverseOf inverseOrZero squaresOf squareAt vecSumTo addOf
     sqrtOf rootUnits isqrt digits addedPa discPa add sub mul div neg lt le eq ne round ofBits ofInt toSigned

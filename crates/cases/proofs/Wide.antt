@@ -7,12 +7,13 @@ use lib.IntN.{pos}
 use mathlib.Core.Bool.{Bool, false, not, true}
 use mathlib.Core.Path.{_∙_, _≡_, ap, refl}
 use native.Mathlib.Omega.{arith}
-use Rattle.aero.specs.Coefficients.{exponent, pastNegative, pastPositive, sigmoid, stallBlend}
+use Rattle.aero.specs.Coefficients.{exponent, hold, stallBlend}
+use Rattle.book.specs.Equations as book
 use Rattle.float.proofs.Interval.{within-finite}
 use Rattle.float.proofs.Rounding.{add-mono, sub-mono}
 use Rattle.float.proofs.Zeros.{round-zero}
 use Rattle.float.specs.Interval.{Within}
-use Rattle.float.specs.Notation.{_⊕_, _⊖_, clamp, zero, one, rounded, abs}
+use Rattle.float.specs.Notation.{_⊕_, _⊖_, _⊗_, _⊘_, abs, clamp, one, rounded, zero}
 use Rattle.float.specs.Same.{num}
 use Rattle.lag.specs.Lag.{approachOf, approachSaturated, saturated}
 use Rattle.libm.specs.Exp.{core, expOf, expSeries, horner, near-down, near-up, poly, rest, binaryExponent}
@@ -47,7 +48,8 @@ full-throttle-stays factor w =
 
 -- ---- sharpness 0
 exponent-none : (t : Bool) → exponent (fin t 0 (pos 0)) ≡ one
-unfolding exponent clamp expOf core poly expSeries horner rest binaryExponent near-up near-down abs add sub mul div neg lt le ne round ofBits ofInt toSigned
+unfolding exponent hold clamp expOf core poly expSeries horner rest binaryExponent near-up near-down
+    abs add sub mul div neg lt le ne round ofBits ofInt toSigned
 exponent-none true = refl
 exponent-none false = refl
 
@@ -73,19 +75,16 @@ together alpha stall v w =
       at-most = add-mono binary32 alpha _ stall _ q tt p tt (w .at-most) (v .at-most);
     })
 
-three-quarters : sigmoid one one ≡ rounded 75 100
-unfolding sigmoid add mul div round
-three-quarters = refl
+three-quarters : (x y : Float) → exponent x ≡ one → exponent y ≡ one
+    → (one ⊕ exponent x ⊕ exponent y) ⊘ ((one ⊕ exponent x) ⊗ (one ⊕ exponent y)) ≡ rounded 75 100
+unfolding add mul div round
+three-quarters x y h k = rw (h, k)
 
 pub blunt-blend : BluntBlend
-unfolding stallBlend pastPositive pastNegative neg
+unfolding stallBlend book.blend exponent neg round
 blunt-blend c alpha s e v w =
     let stall = c .«alpha_stall_rad» in
-    rw (
-      e,
-      zero-times binary32 (not s) (alpha ⊖ stall) (apart alpha stall v w),
-      zero-times binary32 s (alpha ⊕ stall) (together alpha stall v w),
-      exponent-none (unlike (not s) (isMinus (alpha ⊖ stall))),
-      exponent-none (unlike s (isMinus (alpha ⊕ stall))),
-    )
-    three-quarters
+    rw e
+    (three-quarters _ _
+    (rw (zero-times binary32 (not s) (alpha ⊖ stall) (apart alpha stall v w)) (exponent-none (unlike (not s) (isMinus (alpha ⊖ stall)))))
+    (rw (zero-times binary32 s (alpha ⊕ stall) (together alpha stall v w)) (exponent-none (unlike s (isMinus (alpha ⊕ stall))))))

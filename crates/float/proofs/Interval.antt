@@ -2,6 +2,7 @@
 use Prim.Native.Nat.{_*_, _+_, ℕ}
 use lib.Dec.{T}
 use lib.Ieee.{Float, Format, add, div, fits, isNan, le, lt, mul, sub}
+use lib.Ieee.Bits.{is-false}
 use lib.Ieee.Positive.{den, den-pos, positive}
 use lib.Ieee.Scale.{finite}
 use mathlib.Core.Bool.{Bool, cond, false, not, true}
@@ -9,7 +10,7 @@ use mathlib.Core.Path.{_≡_, refl, subst, sym}
 use native.Mathlib.Nat.{mul-pos}
 use native.Mathlib.Omega.{arith}
 use Rattle.float.proofs.Exact.{rounds-ge, rounds-le}
-use Rattle.float.proofs.Order.{Cross, finite-between, finite-number, le-self, le-trans-float, nn, not-lt→le, pp}
+use Rattle.float.proofs.Order.{Cross, finite-between, finite-number, le-self, le-trans-float, le→not-lt, nn, not-lt→le, pp}
 use Rattle.float.proofs.Rounding.{add-mono-l, add-mono-r, div-rounds, divide-mono, mul-anti-r, mul-mono-l, mul-mono-r}
 use Rattle.float.proofs.Rounding.{mul-rounds, no-minus, no-plus, pp-pos, sub-mono}
 use Rattle.float.proofs.Zeros.{le-num}
@@ -117,3 +118,10 @@ clamp-in lo hi x p q m n = go (lt x lo) (lt hi x) (not-lt→le x lo n (finite-nu
     go true b h k = record { at-least = le-self lo p; at-most = m }
     go false true h k = record { at-least = m; at-most = le-self hi q }
     go false false h k = record { at-least = h tt; at-most = k tt }
+
+-- what lies between them already stays as it is
+pub clamp-same : (lo hi x : Float) → T (finite lo) → T (finite hi) → Within lo hi x → clamp lo hi x ≡ x
+unfolding clamp
+clamp-same lo hi x p q w =
+    let f = within-finite lo hi x p q w in
+    rw (is-false (lt x lo) (le→not-lt x lo f p (w .at-least)), is-false (lt hi x) (le→not-lt hi x q f (w .at-most)))

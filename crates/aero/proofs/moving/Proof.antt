@@ -1,5 +1,5 @@
 -- `aero::moving` meets its contract. Assumes nothing.
-use lib.Ieee.{ofBits}
+use lib.Ieee.{ofBits, round}
 use borrow.Author.Needs.{needs}
 use Rattle.aero.specs.Wrench.{movingAt, movingOf, surfaceFree, torqueAt}
 use Rattle.aero.proofs.moving.Statement.{statement}
@@ -42,7 +42,7 @@ with-surfaces-requires : tie.Need-with-surfaces-requires
 with-surfaces-requires c κs = search needs
 
 returns : tie.Need-returns
-unfolding movingOf movingAt torqueAt surfaceFree ofBits
+unfolding movingOf movingAt torqueAt surfaceFree ofBits round
 returns c =
     simp (
       c .with-surfaces .ensures,

@@ -4,7 +4,8 @@ use mathlib.Core.Bool.{cond, false, true}
 use mathlib.Core.Path.{_≡_}
 use borrow.Author.Needs.{needs}
 use Rattle.float.specs.Notation.{_⊕_, _⊖_, _⊗_, zero}
-use Rattle.aero.specs.Coefficients.{onSine, pitchCoefficient}
+use Rattle.book.specs.Equations as book
+use Rattle.aero.specs.Coefficients.{attachedPitch, pitchCoefficient}
 use Rattle.aero.proofs.pitch_coefficient.Statement.{statement}
 use Rattle.aero.proofs.pitch_coefficient.Tie as tie
 
@@ -17,14 +18,14 @@ second-is : (share on pitch base : Float) (plate plate' : Float) → le share ze
 second-is share on pitch base plate plate' e f = rw (e, f)
 
 returns : tie.Need-returns
-unfolding pitchCoefficient onSine ofBits
+unfolding pitchCoefficient attachedPitch book.pitch ofBits
 returns c = first-is _ _ _ (c .if1 .taken)
 
 flat-plate-pitch-requires : tie.Need-flat-plate-pitch-requires
 flat-plate-pitch-requires c κs = search needs
 
 returns-2 : tie.Need-returns-2
-unfolding pitchCoefficient onSine ofBits
+unfolding pitchCoefficient attachedPitch book.pitch ofBits
 returns-2 c = second-is _ _ _ _ _ _ (c .before .before .if1 .left) (c .before .flat-plate-pitch .ensures)
 
 pub pitch-coefficient-spec : {M : Type 1} → statement M

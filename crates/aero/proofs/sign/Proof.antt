@@ -1,6 +1,6 @@
 -- `aero::sign` meets its contract. Assumes nothing.
 use lib.Ieee.{div, neg, ofBits}
-use Rattle.aero.specs.Coefficients.{signOf}
+use Rattle.book.specs.Numbers.{signOf}
 use Rattle.aero.proofs.sign.Statement.{statement}
 use Rattle.aero.proofs.sign.Tie as tie
 

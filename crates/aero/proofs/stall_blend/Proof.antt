@@ -1,7 +1,8 @@
 -- `aero::stall_blend` meets its contract. Assumes nothing.
-use lib.Ieee.{ofBits}
+use lib.Ieee.{ofBits, round}
 use borrow.Author.Needs.{needs}
-use Rattle.aero.specs.Coefficients.{pastNegative, pastPositive, sigmoid, stallBlend}
+use Rattle.book.specs.Equations as book
+use Rattle.aero.specs.Coefficients.{exponent, stallBlend}
 use Rattle.aero.proofs.stall_blend.Statement.{statement}
 use Rattle.aero.proofs.stall_blend.Tie as tie
 
@@ -12,7 +13,7 @@ exponent-requires-2 : tie.Need-exponent-requires-2
 exponent-requires-2 c κs = search needs
 
 returns : tie.Need-returns
-unfolding stallBlend sigmoid pastPositive pastNegative ofBits
+unfolding stallBlend exponent book.blend ofBits round
 returns c = simp (c .exponent2 .ensures, c .before .before .before .exponent .ensures)
 
 pub stall-blend-spec : {M : Type 1} → statement M

@@ -1,0 +1,4 @@
+-- Laws of the book's equations in exact numbers.
+pub mod Algebra
+pub mod Rationals
+pub mod Exact
