@@ -30,15 +30,13 @@ hold-same : (x : Float) → Within (neg sixty) sixty x → hold x ≡ x
 unfolding hold
 hold-same x w = clamp-same (neg sixty) sixty x (unfold neg round in tt) (unfold round in tt) w
 
--- both exponents, within ±60
-pub record WithinClamp (c : AeroCoefficients) (alpha : Float) : Type 0 where
-  pub positive : Within (neg sixty) sixty (neg (c .«stall_sharpness») ⊗ (alpha ⊖ c .«alpha_stall_rad»))
-  pub negative : Within (neg sixty) sixty (c .«stall_sharpness» ⊗ (alpha ⊕ c .«alpha_stall_rad»))
-
-pub blend-is : (c : AeroCoefficients) (alpha : Float) → WithinClamp c alpha
+-- where both exponents lie within ±60 it is the book's
+pub blend-is : (c : AeroCoefficients) (alpha : Float)
+    → Within (neg sixty) sixty (neg (c .«stall_sharpness») ⊗ (alpha ⊖ c .«alpha_stall_rad»))
+    → Within (neg sixty) sixty (c .«stall_sharpness» ⊗ (alpha ⊕ c .«alpha_stall_rad»))
     → stallBlend c alpha ≡ book.blend floats (c .«stall_sharpness») (c .«alpha_stall_rad») alpha
 unfolding stallBlend
-blend-is c alpha h = blend-held floats hold _ _ alpha (hold-same _ (h .positive)) (hold-same _ (h .negative))
+blend-is c alpha h k = blend-held floats hold _ _ alpha (hold-same _ h) (hold-same _ k)
 
 -- ---- the wrench
 abbrev pub aeroOf : Wrench Float → Float → Float → Aero
