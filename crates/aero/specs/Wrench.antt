@@ -43,13 +43,13 @@ aileronMoment m roll d = vec (formulas.moment floats roll (m .«span_m») (m .ae
 unfoldable pub elevatorAndRudder : FixedWingModel → Vec3 → Vec3
 elevatorAndRudder m d =
     vec
-    (m .«span_m» ⊗ m .aero .«c_roll_rudder» ⊗ d .z)
-    (m .«chord_m» ⊗ m .aero .«c_pitch_elevator» ⊗ d .y)
-    (m .«span_m» ⊗ m .aero .«c_yaw_rudder» ⊗ d .z)
+    (formulas.surfaceMoment floats (m .«span_m») (m .aero .«c_roll_rudder») (d .z))
+    (formulas.surfaceMoment floats (m .«chord_m») (m .aero .«c_pitch_elevator») (d .y))
+    (formulas.surfaceMoment floats (m .«span_m») (m .aero .«c_yaw_rudder») (d .z))
 
 unfoldable pub surfaceWrench : FixedWingModel → Float → Float → Vec3 → Aero
 surfaceWrench m roll area d = record {
-  «force_n» = vec zero (area ⊗ m .aero .«c_side_rudder» ⊗ d .z) zero;
+  «force_n» = vec zero (formulas.side floats area (m .aero .«c_side_rudder») (d .z)) zero;
   «torque_nm» = addOf (aileronMoment m roll d) (scaleOf (elevatorAndRudder m d) area);
   «alpha_rad» = zero;
   «beta_rad» = zero;
@@ -65,7 +65,7 @@ washedSurfaces m w free d =
 
 -- ---- the wash's pitch moment: in any flow, and more beyond the stall, by how much of the pressure is free stream
 unfoldable pub washPitch : FixedWingModel → Wash → Vec3
-washPitch m w = vec zero (w .«pitch_moment_pa» ⊗ m .«wing_area_m2» ⊗ m .«chord_m») zero
+washPitch m w = vec zero (formulas.washMoment floats (w .«pitch_moment_pa») (m .«wing_area_m2») (m .«chord_m»)) zero
 
 unfoldable pub freeShare : Float → Float → Float
 freeShare free total = cond (lt zero total) (free ⊘ total) zero
@@ -76,7 +76,10 @@ stallShare f free pa = f .blend ⊗ freeShare free (free ⊕ atLeastZero pa) ⊗
 unfoldable pub stallWash : FixedWingModel → Flow → Float → Wash → Vec3
 stallWash m f area w =
     vec zero
-    (stallShare f (area ⊘ m .«wing_area_m2») (w .«pressure_pa») ⊗ w .«stall_pitch_moment_pa» ⊗ m .«wing_area_m2» ⊗ m .«chord_m»)
+    (formulas.washMoment floats
+    (stallShare f (area ⊘ m .«wing_area_m2») (w .«pressure_pa») ⊗ w .«stall_pitch_moment_pa»)
+    (m .«wing_area_m2»)
+    (m .«chord_m»))
     zero
 
 -- ---- what lift, drag and pitch go by: α = atan2(w, u), and the pressure of √(u² + w²), the speed in the plane of symmetry
@@ -143,7 +146,7 @@ torqueAt m speed f beta rates w density area =
 unfoldable pub movingAt : FixedWingModel → Float → Flow → Float → Vec3 → Vec3 → Wash → Float → Float → Aero
 movingAt m speed f beta rates d w density area =
     withSurfaces
-    (flowForce m f (area ⊗ m .aero .«c_side_beta» ⊗ beta))
+    (flowForce m f (formulas.side floats area (m .aero .«c_side_beta») beta))
     (torqueAt m speed f beta rates w density area)
     (washedSurfaces m w (surfaceFree m f area) d)
     (f .«alpha_rad») beta

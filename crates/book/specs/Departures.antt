@@ -131,22 +131,22 @@ module _ {K : Type 0} (𝓝 : Numbers K) where
     unfoldable pub wrench : Wrench K
     wrench = record {
       fx = formulas.forward 𝓝 L D sα cα + whole 0;
-      fy = Q * w .CYβ * f .β + E * w .CYδr * f .δr;
+      fy = formulas.side 𝓝 Q (w .CYβ) (f .β) + formulas.side 𝓝 E (w .CYδr) (f .δr);
       fz = formulas.down 𝓝 L D sα cα + whole 0;
       l =
           formulas.moment 𝓝 Q (w .b) (w .Clβ) (f .β) + whole 0 + whole 0
           + formulas.twoRates 𝓝 z (w .b) (w .Clp) (w .Clr) (f .p) (f .r)
-          + (formulas.moment 𝓝 R (w .b) (w .Clδa) (f .δa) + w .b * w .Clδr * f .δr * E);
+          + (formulas.moment 𝓝 R (w .b) (w .Clδa) (f .δa) + formulas.surfaceMoment 𝓝 (w .b) (w .Clδr) (f .δr) * E);
       m =
           Qs * w .c * formulas.towardPlate 𝓝 (x .noPlate) share attached (x .turned)
-          + x .pitchPressure * w .S * w .c
-          + x .stallPressure * w .S * w .c
+          + formulas.washMoment 𝓝 (x .pitchPressure) (w .S) (w .c)
+          + formulas.washMoment 𝓝 (x .stallPressure) (w .S) (w .c)
           + formulas.oneRate 𝓝 z (w .c) (w .Cmq) (f .q)
-          + (whole 0 + w .c * w .Cmδe * f .δe * E);
+          + (whole 0 + formulas.surfaceMoment 𝓝 (w .c) (w .Cmδe) (f .δe) * E);
       n =
           formulas.moment 𝓝 Q (w .b) (w .Cnβ) (f .β) + whole 0 + whole 0
           + formulas.twoRates 𝓝 z (w .b) (w .Cnp) (w .Cnr) (f .p) (f .r)
-          + (whole 0 + w .b * w .Cnδr * f .δr * E);
+          + (whole 0 + formulas.surfaceMoment 𝓝 (w .b) (w .Cnδr) (f .δr) * E);
     }
 
     -- ---- what it has and the book has not
@@ -175,11 +175,11 @@ module _ {K : Type 0} (𝓝 : Numbers K) where
     abbrev surfaces : K → K → Wrench K
     surfaces a e = record {
       fx = whole 0;
-      fy = e * w .CYδr * f .δr;
+      fy = formulas.side 𝓝 e (w .CYδr) (f .δr);
       fz = whole 0;
-      l = a * w .b * w .Clδa * f .δa + e * w .b * w .Clδr * f .δr;
-      m = e * w .c * w .Cmδe * f .δe;
-      n = e * w .b * w .Cnδr * f .δr;
+      l = formulas.moment 𝓝 a (w .b) (w .Clδa) (f .δa) + formulas.moment 𝓝 e (w .b) (w .Clδr) (f .δr);
+      m = formulas.moment 𝓝 e (w .c) (w .Cmδe) (f .δe);
+      n = formulas.moment 𝓝 e (w .b) (w .Cnδr) (f .δr);
     }
 
     -- the stall takes a share of the free stream from them
@@ -196,7 +196,11 @@ module _ {K : Type 0} (𝓝 : Numbers K) where
 
     -- the wash pitches the aeroplane, in any flow and more beyond the stall
     abbrev pub washPitch : Wrench K
-    washPitch = longitudinal (whole 0) (whole 0) (x .pitchPressure * w .S * w .c + x .stallPressure * w .S * w .c)
+    washPitch =
+        longitudinal
+        (whole 0)
+        (whole 0)
+        (formulas.washMoment 𝓝 (x .pitchPressure) (w .S) (w .c) + formulas.washMoment 𝓝 (x .stallPressure) (w .S) (w .c))
 
     -- the wash damps the rates, with a scale of its own beside the free stream's
     abbrev pub washRates : Wrench K

@@ -56,9 +56,21 @@ module _ {K : Type 0} (𝓝 : Numbers K) where
   abbrev pub down : K → K → K → K → K
   down L D sα cα = - L * cα - D * sα
 
-  -- ---- moments: of a coefficient C under Q on the arm l, by an angle
+  -- to the side: of a coefficient C under Q, by an angle
+  abbrev pub side : K → K → K → K
+  side Q C angle = Q * C * angle
+
+  -- ---- moments: the same on an arm l
   abbrev pub moment : K → K → K → K → K
   moment Q l C angle = Q * l * C * angle
+
+  -- of elevator and rudder, still without their pressure
+  abbrev pub surfaceMoment : K → K → K → K
+  surfaceMoment l C angle = l * C * angle
+
+  -- of the wash on the wing, by a pressure
+  abbrev pub washMoment : K → K → K → K
+  washMoment pressure S c = pressure * S * c
 
   -- of the rates, under the scale z: of p and r on the span, of q on the chord
   abbrev pub twoRates : K → K → K → K → K → K → K

@@ -9,6 +9,7 @@ use mathlib.Core.Path.{_∙_, _≡_, ap, refl}
 use native.Mathlib.Omega.{arith}
 use Rattle.aero.specs.Coefficients.{exponent, hold, stallBlend}
 use Rattle.book.specs.Equations as book
+use Rattle.fixed_wing.specs.declared.AeroCoefficients.{AeroCoefficients}
 use Rattle.float.proofs.Interval.{within-finite}
 use Rattle.float.proofs.Rounding.{add-mono, sub-mono}
 use Rattle.float.proofs.Zeros.{round-zero}
@@ -75,16 +76,30 @@ together alpha stall v w =
       at-most = add-mono binary32 alpha _ stall _ q tt p tt (w .at-most) (v .at-most);
     })
 
-three-quarters : (x y : Float) → exponent x ≡ one → exponent y ≡ one
-    → (one ⊕ exponent x ⊕ exponent y) ⊘ ((one ⊕ exponent x) ⊗ (one ⊕ exponent y)) ≡ rounded 75 100
+-- the blend of two exponentials that are 1
+abbrev blended : Float
+blended = (one ⊕ one ⊕ one) ⊘ ((one ⊕ one) ⊗ (one ⊕ one))
+
+blend-of-ones : (c : AeroCoefficients) (alpha : Float)
+    → exponent (neg (c .«stall_sharpness») ⊗ (alpha ⊖ c .«alpha_stall_rad»)) ≡ one
+    → exponent (c .«stall_sharpness» ⊗ (alpha ⊕ c .«alpha_stall_rad»)) ≡ one
+    → stallBlend c alpha ≡ blended
+unfolding stallBlend book.blend exponent round
+blend-of-ones c alpha h k =
+    let by : Float → Float → Float = λ p n. (one ⊕ p ⊕ n) ⊘ ((one ⊕ p) ⊗ (one ⊕ n)) in
+    ap (λ p. by p (exponent (c .«stall_sharpness» ⊗ (alpha ⊕ c .«alpha_stall_rad»)))) h ∙ ap (by one) k
+
+three-quarters : blended ≡ rounded 75 100
 unfolding add mul div round
-three-quarters x y h k = rw (h, k)
+three-quarters = refl
+
+no-exponent : (s : Bool) (x y : Float) → y ≡ fin s 0 (pos 0) → T (finite x) → exponent (y ⊗ x) ≡ one
+no-exponent s x y e h = rw (e, zero-times binary32 s x h) (exponent-none (unlike s (isMinus x)))
 
 pub blunt-blend : BluntBlend
-unfolding stallBlend book.blend exponent neg round
 blunt-blend c alpha s e v w =
     let stall = c .«alpha_stall_rad» in
-    rw e
-    (three-quarters _ _
-    (rw (zero-times binary32 (not s) (alpha ⊖ stall) (apart alpha stall v w)) (exponent-none (unlike (not s) (isMinus (alpha ⊖ stall)))))
-    (rw (zero-times binary32 s (alpha ⊕ stall) (together alpha stall v w)) (exponent-none (unlike s (isMinus (alpha ⊕ stall))))))
+    blend-of-ones c alpha
+    (no-exponent (not s) (alpha ⊖ stall) _ (unfold neg in rw e) (apart alpha stall v w))
+    (no-exponent s (alpha ⊕ stall) _ e (together alpha stall v w))
+    ∙ three-quarters
