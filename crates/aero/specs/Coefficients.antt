@@ -1,5 +1,5 @@
 -- The coefficients (01, module 6): the book's equations (crates/book) read in floats where the Rust has the book's shape, else the
--- Rust's (`Formulas`) read in floats. What the two have to do with each other is in proofs/Book. Definitions only.
+-- Rust's (`Formulas`) read in floats. That the two say the same in exact numbers is proved in book/proofs/Exact. Definitions only.
 use lib.Ieee.{Float, le, lt, neg}
 use mathlib.Core.Bool.{cond}
 use Rattle.book.specs.Equations as book

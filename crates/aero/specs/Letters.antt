@@ -53,6 +53,7 @@ motionOf m air rates d density = record {
   δr = d .z;
 }
 
+-- the clamp, the floor, the speed in the plane of symmetry, the stall's shares, the flat plate and the wash
 abbrev pub besidesOf : FixedWingModel → Vec3 → Wash → Float → Besides Float
 besidesOf m air w density =
     let f = flowOf m air density in

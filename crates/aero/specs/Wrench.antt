@@ -20,7 +20,7 @@ use Rattle.aero.specs.declared.Flow.{Flow}
 unfoldable pub pressureArea : FixedWingModel → Float → Float → Float
 pressureArea m v density = formulas.pressureArea floats density v (m .«wing_area_m2»)
 
--- the wash's, per unit of airspeed: ½ ρ V S
+-- the wash's scale in the rate terms: ½ ρ u S, by its own speed u
 unfoldable pub washRateScale : FixedWingModel → Wash → Float → Float
 washRateScale m w density = formulas.washScale floats density (w .«damping_mps») (m .«wing_area_m2»)
 

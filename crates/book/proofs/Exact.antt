@@ -32,9 +32,9 @@ module _ {K : Type 0} (𝓝 : Numbers K) where
       → book.blend (held (x .hold) 𝓝) (w .M) (w .α0) (f .α) ≡ book.blend 𝓝 (w .M) (w .α0) (f .α)
   unclamped w f x h = blend-held (x .hold) (w .M) (w .α0) (f .α) (h .positive) (h .negative)
 
-module _ {K : Type 0} (𝓕 : Field K) (φ : Functions K) where
+module _ {K : Type 0} (𝓕 : Field K) (functions : Functions K) where
   abbrev 𝓝 : Numbers K
-  𝓝 = exactly 𝓕 φ
+  𝓝 = exactly 𝓕 functions
 
   open CommRing (𝓕 .ring) using (add as _+_, mul as _*_, zero as 𝟘, neg as -_)
 

@@ -1,12 +1,12 @@
 -- The whole wrench in moving air, over any numbers, and every place where it is not the book's, by name. docs/DIFFERENCES.md explains
 -- each name. Definitions only.
 use mathlib.Core.Bool.{Bool, cond}
-use mathlib.Core.Path.{_≡_}
 use mathlib.Core.List.{List, [], _∷_}
+use mathlib.Core.Path.{_≡_}
 use Rattle.book.specs.Equations as book
 use Rattle.book.specs.Equations.{Motion, Others, Wing, Wrench}
-use Rattle.book.specs.Numbers.{Numbers, held}
 use Rattle.book.specs.Formulas as formulas
+use Rattle.book.specs.Numbers.{Numbers, held}
 
 -- what the wrench goes by and the book's does not
 pub record Besides (K : Type 0) : Type 0 where

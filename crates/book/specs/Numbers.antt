@@ -87,16 +87,16 @@ pub record Functions (K : Type 0) : Type 0 where
   pub sign : K → K
 
 abbrev pub exactly : {K : Type 0} → Field K → Functions K → Numbers K
-exactly 𝓕 φ = record {
+exactly 𝓕 functions = record {
   _+_ = 𝓕 .ring .add;
   _-_ = λ x y. 𝓕 .ring .add x (𝓕 .ring .neg y);
   _*_ = 𝓕 .ring .mul;
   _/_ = λ x y. 𝓕 .ring .mul x (𝓕 .inverse y);
   -_ = 𝓕 .ring .neg;
   whole = count (𝓕 .ring);
-  π = φ .π;
-  exp = φ .exp;
-  sin = φ .sin;
-  cos = φ .cos;
-  sign = φ .sign;
+  π = functions .π;
+  exp = functions .exp;
+  sin = functions .sin;
+  cos = functions .cos;
+  sign = functions .sign;
 }
