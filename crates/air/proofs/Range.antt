@@ -16,10 +16,9 @@ use native.Mathlib.Omega.{arith}
 use Rattle.float.proofs.Interval.{div-in, within-finite, within_wider}
 use Rattle.float.proofs.Order.{finite-between, le-self, le-trans-float, le→not-lt, lt→le}
 use Rattle.float.proofs.Rounding.{add-mono-r, divide-mono, mul-anti-r, sub-mono}
-use Rattle.float.proofs.Tests.{All, all→, allb, every_below→}
+use Rattle.float.proofs.Tests.{All, all→, allb, every_below, every_below→}
 use Rattle.float.proofs.Zeros.{nonzero, zero-is-zero, zero-not-below}
 use Rattle.float.specs.Interval.{Within}
-use Rattle.float.specs.Lists.{every_below}
 use Rattle.float.specs.Notation.{◌⊖◌, ◌⊗◌, ◌⊘◌, zero, one, rounded}
 use Rattle.float.specs.Same.{flip}
 use Rattle.air.proofs.Rows.{between_ends, densities-fall, height-finite, heights-climb, over-row, rise, row_inside, step, under_next}

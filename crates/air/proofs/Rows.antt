@@ -18,10 +18,10 @@ use Rattle.float.proofs.Interval.{div-in, plus-in, within-finite}
 use Rattle.float.proofs.Lists.{same_at}
 use Rattle.float.proofs.Order.{finite_number, le-lt, le-self, le-trans-float, le→not-lt, lt-le, lt→le, not-le→lt}
 use Rattle.float.proofs.Rounding.{add-mono-l, divide-mono}
-use Rattle.float.proofs.Tests.{All, all→, allb, by_cases, every_below→}
+use Rattle.float.proofs.Tests.{All, all→, allb, by_cases, every_below, every_below→}
 use Rattle.float.proofs.Truncation.{to_signed-mono}
 use Rattle.float.specs.Interval.{Within}
-use Rattle.float.specs.Lists.{every_below, list_from, list_of}
+use Rattle.float.specs.Lists.{list_from, list_of}
 use Rattle.float.specs.Notation.{◌⊕◌, ◌⊖◌, ◌⊗◌, ◌⊘◌, zero, one, rounded}
 use Rattle.air.specs.Promises.{Inside}
 use Rattle.air.specs.Density.{between, densities, density_of, height_of, last_row, row_count, row_down_from, ten_thousandths}

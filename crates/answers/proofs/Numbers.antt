@@ -4,7 +4,7 @@ use mathlib.Core.Path.{◌≡◌, refl}
 use native.Mathlib.Nat.{suc-ne-zero}
 use Rattle.answers.specs.Answers.{number_of}
 use Rattle.answers.specs.declared.Answer.{Answer}
-use Rattle.answers.specs.declared.Answer.TheVariants.{Departure, Done, NoCount, NumberOutOfRange, ReservedBit, StateOutside, StepOutside}
+use Rattle.answers.specs.declared.Answer.TheVariants.{Departure, Done, NumberOutOfRange, ReservedBit, StateOutside, StepOutside}
 use Rattle.answers.specs.declared.Answer.TheVariants.{TooManyRows, WindUnusable, WrongFalloff, WrongLength, WrongVersion}
 
 pub number-done : (x : Answer) → number_of x ≡ 0 → x ≡ Done
@@ -19,7 +19,6 @@ number-done StateOutside e = absurd (suc-ne-zero 6 e)
 number-done StepOutside e = absurd (suc-ne-zero 7 e)
 number-done Departure e = absurd (suc-ne-zero 8 e)
 number-done WindUnusable e = absurd (suc-ne-zero 9 e)
-number-done NoCount e = absurd (suc-ne-zero 10 e)
 
 pub number_small : (x : Answer) → T (ltb (number_of x) 16)
 number_small Done = tt
@@ -33,4 +32,3 @@ number_small StateOutside = tt
 number_small StepOutside = tt
 number_small Departure = tt
 number_small WindUnusable = tt
-number_small NoCount = tt

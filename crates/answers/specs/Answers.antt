@@ -1,7 +1,7 @@
--- What the bench replies: the number and the place of each answer (01's table, 10 of 02, 1, and 11 of 02, 7). Definitions only.
+-- What the bench replies: the number and the place of each answer (01's table, and 10 of 02, 1). Definitions only.
 use Rattle.std.specs.Prelude.{ℕ, eqb, Bool}
 use Rattle.answers.specs.declared.Answer.{Answer}
-use Rattle.answers.specs.declared.Answer.TheVariants.{Departure, Done, NoCount, NumberOutOfRange, ReservedBit, StateOutside, StepOutside}
+use Rattle.answers.specs.declared.Answer.TheVariants.{Departure, Done, NumberOutOfRange, ReservedBit, StateOutside, StepOutside}
 use Rattle.answers.specs.declared.Answer.TheVariants.{TooManyRows, WindUnusable, WrongFalloff, WrongLength, WrongVersion}
 
 abbrev pub number_of : Answer → ℕ
@@ -16,7 +16,6 @@ number_of StateOutside = 7
 number_of StepOutside = 8
 number_of Departure = 9
 number_of WindUnusable = 10
-number_of NoCount = 11
 
 -- accepted, read or written: nothing was refused
 abbrev pub is_done : Answer → Bool
@@ -35,4 +34,3 @@ place_of StateOutside = 0
 place_of StepOutside = 0
 place_of Departure = 0
 place_of WindUnusable = 0
-place_of NoCount = 0

@@ -18,7 +18,6 @@ pub enum Answer {
     StepOutside,
     Departure,
     WindUnusable,
-    NoCount,
 }
 
 impl Answer {
@@ -38,7 +37,6 @@ impl Answer {
             Answer::StepOutside => 8,
             Answer::Departure => 9,
             Answer::WindUnusable => 10,
-            Answer::NoCount => 11,
         }
     }
 
@@ -65,7 +63,6 @@ impl Answer {
             Answer::StepOutside => 0,
             Answer::Departure => 0,
             Answer::WindUnusable => 0,
-            Answer::NoCount => 0,
         }
     }
 }

@@ -1,5 +1,5 @@
 // The bench for C and Rust to link: reading and writing blocks, a tick, a run over a trace and the mirrored pair, on bytes and
-// arrays of numbers; traces off the servo bus; the elementary functions, and the air's density. include/bench.h says it for callers.
+// arrays of numbers; the elementary functions, and the air's density. include/bench.h says it for callers.
 #![tactic(auto)]
 
 ghost use Rattle.std.specs.Prelude.{◌≡◌, ◌≤◌, length};
@@ -313,26 +313,13 @@ fn ended(answer: Answer, flight: Flight) -> RunResult
     }
 }
 
-// Whether a trace is whole ticks, of tick blocks or off the servo bus.
-fn is_whole(trace: &[u8], bus: bool) -> bool
-    ensures { result ≡ Promises.wholeIn bus trace.now }
+// The run of an airframe that was read.
+fn run_by(read: AirframeRead, f: Flight, trace: &[u8]) -> RunResult
+    ensures { result ≡ Library.run_result_by read f trace.now }
 {
-    if bus {
-        return trace::bus_is_whole(trace);
-    }
-    trace::is_whole(trace)
-}
-
-// The run of an airframe that was read, over a trace of either form.
-fn run_by(read: AirframeRead, f: Flight, trace: &[u8], bus: bool) -> RunResult
-    ensures { result ≡ Promises.run_by bus read f trace.now }
-{
-    if is_whole(trace, bus) {
+    if trace::is_whole(trace) {
         let answer = read.answer;
         if answer.is_done() {
-            if bus {
-                return run::run_bus(read.airframe, f, trace);
-            }
             return run::run(read.airframe, f, trace);
         }
         return ended(answer, f);
@@ -375,24 +362,6 @@ fn put_end(state: &mut [f32], done: RunResult)
     }
 }
 
-// The run over a trace of either form, from the state in its array.
-fn run_array(airframe: &[u8], state: &mut [f32], trace: &[u8], bus: bool, accepted: &mut u64) -> u64
-    ensures { let o = Promises.runIn bus airframe.now state.old trace.now in
-        (result ≡ o.reply) × (state.new ≡ o.state) × (accepted.new ≡ o.accepted) }
-{
-    let lent = state.len();
-    if lent == arrays::STATE_NUMBERS {
-        let f = arrays::flight_in(state);
-        let done = run_by(airframe_block::read_airframe(airframe), f, trace, bus);
-        let answer = done.answer;
-        put_end(state, done);
-        *accepted = done.accepted;
-        return reply(answer);
-    }
-    *accepted = 0;
-    WRONG_LENGTH
-}
-
 // Flies the trace from the state in its array, and counts the accepted ticks: a refused run leaves the state and counts none.
 #[unsafe(no_mangle)]
 pub extern "C" fn bench_run(
@@ -404,41 +373,17 @@ pub extern "C" fn bench_run(
     ensures { let o = Library.run airframe.now state.old trace.now in
         (result ≡ o.reply) × (state.new ≡ o.state) × (accepted.new ≡ o.accepted) }
 {
-    run_array(airframe, state, trace, false, accepted)
-}
-
-// Flies a trace off the servo bus, as bench_run does a trace of tick blocks.
-#[unsafe(no_mangle)]
-pub extern "C" fn bench_run_bus(
-    airframe: &[u8],
-    state: &mut [f32],
-    bus: &[u8],
-    accepted: &mut u64,
-) -> u64
-    ensures { let o = Library.runBus airframe.now state.old bus.now in
-        (result ≡ o.reply) × (state.new ≡ o.state) × (accepted.new ≡ o.accepted) }
-{
-    run_array(airframe, state, bus, true, accepted)
-}
-
-// Turns a trace off the servo bus into tick blocks, in lent bytes.
-#[unsafe(no_mangle)]
-pub extern "C" fn bench_bus_to_trace(bus: &[u8], trace: &mut [u8]) -> u64
-    ensures { let o = Library.bus_to_trace bus.now trace.old in
-        (result ≡ o.reply) × (trace.new ≡ o.block) }
-{
-    let answer = trace::bus_to_trace(bus, trace);
-    reply(answer)
-}
-
-// Turns a trace of tick blocks into one off the servo bus, in lent bytes.
-#[unsafe(no_mangle)]
-pub extern "C" fn bench_trace_to_bus(trace: &[u8], bus: &mut [u8]) -> u64
-    ensures { let o = Library.trace_to_bus trace.now bus.old in
-        (result ≡ o.reply) × (bus.new ≡ o.block) }
-{
-    let answer = trace::trace_to_bus(trace, bus);
-    reply(answer)
+    let lent = state.len();
+    if lent == arrays::STATE_NUMBERS {
+        let f = arrays::flight_in(state);
+        let done = run_by(airframe_block::read_airframe(airframe), f, trace);
+        let answer = done.answer;
+        put_end(state, done);
+        *accepted = done.accepted;
+        return reply(answer);
+    }
+    *accepted = 0;
+    WRONG_LENGTH
 }
 
 // Whether both arrays of a pair hold a state.

@@ -1,4 +1,3 @@
 -- Laws of what blocks of bytes are made of.
-pub mod Bytes
 pub mod Writing
 pub mod RoundTrip

@@ -48,7 +48,7 @@ word-put-other s i n j l =
     simp (b j (omega arith), b (j + 1) (omega arith), b (j + 2) (omega arith), b (j + 3) (omega arith))
 
 -- a number below 2^32 is what its four bytes say
-pub four_bytes : (n : ℕ) → n < 4294967296 → n / 16777216 % 256 * 16777216 + n / 65536 % 256 * 65536 + n / 256 % 256 * 256 + n % 256 ≡ n
+four_bytes : (n : ℕ) → n < 4294967296 → n / 16777216 % 256 * 16777216 + n / 65536 % 256 * 65536 + n / 256 % 256 * 256 + n % 256 ≡ n
 four_bytes n h =
     let a : n / 256 / 256 ≡ n / 65536 = omega arith in
     let b : n / 65536 / 256 ≡ n / 16777216 = omega arith in

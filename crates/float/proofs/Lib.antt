@@ -9,7 +9,6 @@ pub mod Interval
 pub mod Sizes
 pub mod Truncation
 pub mod Lists
-pub mod Bytes
 pub mod Tests
 pub mod Mirror
 pub mod Equal

@@ -1,7 +1,6 @@
 -- The side that a test takes; and many tests at once, computed: a list of them, and one at every number below a bound. Assumes nothing.
-use Rattle.std.proofs.Common.{◌≡◌, ℕ, zero, suc, ◌+◌, ◌<◌, Bool, true, false, cond, ◌&&◌, T, ◌⊎◌, List, [], ◌∷◌, sym, refl, ap, ◌∙◌, subst, inl, inr, true≢false, le_of_suc-le-suc, eq-or-lt_of_le, add-one, arith}
+use Rattle.std.proofs.Common.{◌≡◌, ℕ, zero, suc, ◌<◌, Bool, true, false, cond, ◌&&◌, T, List, [], ◌∷◌, sym, refl, subst, inl, inr, le_of_suc-le-suc, eq-or-lt_of_le, arith}
 use lib.Ieee.Fits.{and_l, and_r}
-use Rattle.float.specs.Lists.{every_below}
 
 -- ---- what holds of both sides of a test holds of the one it takes
 pub either : {X : Type 0} (P : X → Type 0) (t : Bool) {x y : X} → P x → P y → P (cond t x y)
@@ -27,6 +26,10 @@ all→ [] t = tt
 all→ (c ∷ cs) t = (and_l c (allb cs) t, all→ cs (and_r c (allb cs) t))
 
 -- one test at every number below n
+unfoldable pub every_below : (ℕ → Bool) → ℕ → Bool
+every_below t zero = true
+every_below t (suc n) = t n && every_below t n
+
 pub every_below→ : (t : ℕ → Bool) (n : ℕ) → T (every_below t n) → (j : ℕ) → j < n → T (t j)
 unfolding every_below
 every_below→ t zero h j l = absurd (none j l)
@@ -39,27 +42,3 @@ every_below→ t (suc n) h j l =
       | inr k ↦ every_below→ t n
           (and_r (t n) (every_below t n) h) j k
     ]
-
--- and the way back
-pub every-below : (t : ℕ → Bool) (n : ℕ) → ((j : ℕ) → j < n → t j ≡ true) → every_below t n ≡ true
-unfolding every_below
-every-below t zero h = refl
-every-below t (suc n) h = rw (h n (omega arith)) (every-below t n (λ j l. h j (omega (arith, l))))
-
--- a loop that leaves off at the first test that fails: one number more, and one that fails
-pub every_more : (t : ℕ → Bool) (n : ℕ) → every_below t n ≡ true → t n ≡ true → every_below t (n + 1) ≡ true
-unfolding every_below
-every_more t n h e = ap (every_below t) (add-one n) ∙ rw e h
-
-pub every-fails : (t : ℕ → Bool) (n j : ℕ) → j < n → t j ≡ false → every_below t n ≡ false
-unfolding every_below
-every-fails t zero j l e = absurd (none j l)
-  where
-    none : (j : ℕ) → j < 0 → ⊥
-    none j l = omega arith
-every-fails t (suc n) j l e = go (t n) refl (λ h. every-fails t n j h e) (eq-or-lt_of_le (le_of_suc-le-suc l))
-  where
-    go : (b : Bool) → t n ≡ b → (j < n → every_below t n ≡ false) → (j ≡ n) ⊎ (j < n) → t n && every_below t n ≡ false
-    go false g r h = rw g
-    go true g r (inl h) = absurd (true≢false (sym g ∙ ap t (sym h) ∙ e))
-    go true g r (inr h) = rw g (r h)

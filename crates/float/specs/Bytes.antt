@@ -1,5 +1,5 @@
--- Bytes of numbers, the highest first (01, "Blocks": bytes big-endian). Definitions only.
-use Rattle.std.specs.Prelude.{ℕ, ◌+◌, ◌*◌, ◌/◌, ◌%◌, List, [], ◌∷◌, slice_index, slice_set}
+-- Four bytes as one number, the highest first (01, "Blocks": bytes big-endian). Definitions only.
+use Rattle.std.specs.Prelude.{ℕ, ◌+◌, ◌*◌, ◌/◌, ◌%◌, List, slice_index, slice_set}
 
 -- the byte at i; 0 past the end
 abbrev pub byte_at : List ℕ → ℕ → ℕ
@@ -12,15 +12,3 @@ word s i = byte_at s i * 16777216 + byte_at s (i + 1) * 65536 + byte_at s (i + 2
 -- s with the four bytes of n at i, big-endian
 abbrev pub put : List ℕ → ℕ → ℕ → List ℕ
 put s i n = slice_set (slice_set (slice_set (slice_set s i (n / 16777216 % 256)) (i + 1) (n / 65536 % 256)) (i + 2) (n / 256 % 256)) (i + 3) (n % 256)
-
--- the four bytes of n, the two of a smaller one, big-endian
-abbrev pub four_bytes : ℕ → List ℕ
-four_bytes n = n / 16777216 % 256 ∷ n / 65536 % 256 ∷ n / 256 % 256 ∷ n % 256 ∷ []
-
-abbrev pub two_bytes : ℕ → List ℕ
-two_bytes n = n / 256 % 256 ∷ n % 256 ∷ []
-
--- s with the bytes bs from i on
-unfoldable pub put_bytes : List ℕ → ℕ → List ℕ → List ℕ
-put_bytes s i [] = s
-put_bytes s i (b ∷ bs) = put_bytes (slice_set s i b) (i + 1) bs

@@ -27,15 +27,13 @@ pub fn to_bits(x: f32) -> u32
     if x != x { 0x7fc0_0000 } else { f32::to_bits(x) }
 }
 
-// A byte as a number of 32 bits.
-pub fn wide(b: u8) -> u32
+fn wide(b: u8) -> u32
     ensures { (result ≡ b) × (result < 256) }
 {
     b as u32
 }
 
-// The lowest byte of n.
-pub fn low_byte(n: u32) -> u8
+fn low_byte(n: u32) -> u8
     ensures { result ≡ n % 256 }
 {
     (n % 256) as u8

@@ -22,10 +22,9 @@ use Rattle.float.proofs.Order.{Cross, cross→le, le-lt, le-neg, le-or-ge, le-tr
 use Rattle.float.proofs.Rounding.{add-mono-l, div-rounds, mul-anti-r, mul-mono-l, mul-mono-r, pp-pos, positive-no-minus, sub-mono}
 use Rattle.float.proofs.Sign.{mul-comm-exact}
 use Rattle.float.proofs.Sizes.{above, neg-mul-neg}
-use Rattle.float.proofs.Tests.{All, allb, all→, every_below→}
+use Rattle.float.proofs.Tests.{All, allb, all→, every_below, every_below→}
 use Rattle.float.proofs.Zeros.{plus-above}
 use Rattle.float.specs.Interval.{Within}
-use Rattle.float.specs.Lists.{every_below}
 use Rattle.float.specs.Notation.{half, zero, one, rounded, two}
 use Rattle.libm.proofs.Range.{minus_half, stage, stage-test}
 use Rattle.libm.proofs.Signs.{bits-finite, bits_pos}

@@ -1,7 +1,7 @@
--- A run over a trace's ticks: what an iteration of its loop keeps, which ticks leave a run as it was, and the tracks. Assumes nothing.
+-- A run over a trace's ticks: what an iteration of its loop keeps, which ticks leave a run as it was, and the ticks reflected. Assumes nothing.
 use Prim.Native.Nat.{◌%◌, ◌+◌, ℕ}
 use lib.Dec.{eqb}
-use mathlib.Core.Bool.{false, true, true≢false}
+use mathlib.Core.Bool.{cond, false, true, true≢false}
 use mathlib.Core.List.{List, [], ◌∷◌, map}
 use mathlib.Core.Path.{◌∙◌, ◌≡◌, ap, ap₂, refl, sym}
 use native.Mathlib.Nat.{add-zero}
@@ -9,23 +9,21 @@ use Rattle.airframe.specs.Acceptance.{refused_place}
 use Rattle.airframe.specs.declared.Airframe.{Airframe}
 use Rattle.answers.specs.Answers.{number_of}
 use Rattle.answers.specs.declared.Answer.{Answer}
+use Rattle.answers.specs.declared.Answer.TheVariants.{Done, WrongLength}
 use Rattle.flight.specs.Envelope.{is_inside}
 use Rattle.flight.specs.Reflection.{reflect_tick}
 use Rattle.flight.specs.declared.Flight.{Flight}
 use Rattle.flight.specs.declared.Tick.{Tick}
-use Rattle.float.proofs.Lists.{list_of-map}
 use Rattle.ordered.proofs.Ordered.{some-eqb}
-use Rattle.trace.proofs.Reflection.{Bytes, reflected-bus-length, reflected-bus-ticks, reflected-length, reflected-ticks}
-use Rattle.trace.specs.Bus.{bus_is_whole, bus_tick_bytes, bus_ticks_of}
-use Rattle.trace.specs.Reflection.{reflect_bus, reflect_trace}
+use Rattle.trace.proofs.Reflection.{Bytes, reflected-length, reflected-ticks}
+use Rattle.trace.specs.Reflection.{reflect_trace}
 use Rattle.trace.specs.Tick.{tick_bytes}
-use Rattle.trace.specs.Trace.{is_whole, tick_at, tick_count, ticks_of}
+use Rattle.trace.specs.Trace.{ticks_of}
 use Rattle.wing.proofs.Passed.{Passed, tick-cases}
 use Rattle.wing.specs.Tick.{refused_of, tick_of, wind_usable}
 use Rattle.wing.specs.declared.TickResult.{TickResult}
-use Rattle.run.specs.Promises.{track_ticks}
-use Rattle.run.specs.Run.{Progress, bus_result_of, one_if_done, progressed, run_from, run_result_of, run_result_over}
-use Rattle.run.specs.declared.Track.TheVariants.{Blocks, Bus, Reflected}
+use Rattle.run.specs.Promises.{reflected_if}
+use Rattle.run.specs.Run.{Progress, ended, one_if_done, progressed, run_result_of, run_result_over, run_from, run_of}
 
 -- a tick that cannot pass every test leaves state and count
 stays : (a : Airframe) (p : Progress) (t : Tick) → (Passed a p.flight t → ⊥) → progressed a p t ≡ p
@@ -66,28 +64,22 @@ progress a p t u k n h g m =
     let q : k ≡ tick_of a p.flight t = g ∙ ap (tick_of a p.flight) h in
     ap₂ (λ (x : TickResult) (j : ℕ). record { flight = x.flight; accepted = p.accepted + j }) q (m ∙ ap (λ (x : TickResult). one_if_done x.report.answer) q)
 
--- ---- the tracks: a trace's ticks, the same reflected, and those off the servo bus
-pub blocks-track : (s : List ℕ) → track_ticks Blocks s ≡ ticks_of s
-unfolding ticks_of
-blocks-track s = refl
+-- ---- the ticks as they are, and each one reflected
+pub plain-track : (ts : List Tick) → map (reflected_if false) ts ≡ ts
+unfolding reflected_if
+plain-track [] = refl
+plain-track (t ∷ ts) = ap (λ (us : List Tick). t ∷ us) (plain-track ts)
 
-pub reflected-track : (s : List ℕ) → track_ticks Reflected s ≡ map reflect_tick (ticks_of s)
-unfolding ticks_of
-reflected-track s = sym (list_of-map reflect_tick (tick_at s) (tick_count s))
+pub reflected-track : (ts : List Tick) → map (reflected_if true) ts ≡ map reflect_tick ts
+unfolding reflected_if
+reflected-track [] = refl
+reflected-track (t ∷ ts) = ap (λ (us : List Tick). reflect_tick t ∷ us) (reflected-track ts)
 
-pub bus-track : (s : List ℕ) → track_ticks Bus s ≡ bus_ticks_of s
-unfolding bus_ticks_of
-bus-track s = refl
-
--- the run over the reflected bytes is the run over the reflected ticks
-pub reflected-run : (a : Airframe) (f : Flight) (s : List ℕ) → Bytes s
-    → run_result_of a f (reflect_trace s) ≡ run_result_over a f (is_whole s) (map reflect_tick (ticks_of s))
-unfolding run_result_of
+-- so the run over the reflected bytes is the run over the reflected ticks
+pub reflected-run : (a : Airframe) (f : Flight) (s : List ℕ) → Bytes s → run_result_of a f (reflect_trace s) ≡ run_result_over a f s (map reflect_tick (ticks_of s))
+unfolding run_result_of run_result_over
 reflected-run a f s h =
-    ap₂ (λ (n : ℕ) (ts : List Tick). run_result_over a f (eqb (n % tick_bytes) 0) ts) (reflected-length s) (reflected-ticks s h)
-
-pub reflected-bus-run : (a : Airframe) (f : Flight) (s : List ℕ) → Bytes s
-    → bus_result_of a f (reflect_bus s) ≡ run_result_over a f (bus_is_whole s) (map reflect_tick (bus_ticks_of s))
-unfolding bus_result_of
-reflected-bus-run a f s h =
-    ap₂ (λ (n : ℕ) (ts : List Tick). run_result_over a f (eqb (n % bus_tick_bytes) 0) ts) (reflected-bus-length s) (reflected-bus-ticks s h)
+    ap₂
+    (λ (n : ℕ) (ts : List Tick). cond (eqb (n % tick_bytes) 0) (ended Done (run_of a f ts).flight (run_of a f ts).accepted) (ended WrongLength f 0))
+    (reflected-length s)
+    (reflected-ticks s h)

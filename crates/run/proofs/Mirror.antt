@@ -28,6 +28,7 @@ use Rattle.wing.specs.Tick.{tick_of}
 use Rattle.wing.specs.declared.TickResult.{TickResult}
 use Rattle.run.proofs.Calls.{all-calls, by-definition, lent-flown, value-flown}
 use Rattle.run.proofs.Loop.{stays-inside}
+use Rattle.trace.specs.Trace.{is_whole}
 use Rattle.run.specs.Calls.{Each, each_more, each_none}
 use Rattle.run.specs.Mirrored.{AcceptedState, Agree, All, Angles, ByDefinition, Demand3, InRange, Mirrored, MirroredFlights, RunRel, Ranges}
 use Rattle.run.specs.Run.{Progress, Told, calls_of, ended, one_if_done, progressed, run_result_over, run_from, run_of, told_by}
@@ -82,13 +83,16 @@ unfolding run_of
 run-mirror h k ws = let r = run-from-mirror h (record { flight = k; accepted = refl }) ws in (r.flight, r.accepted)
 
 -- ---- the runs called once on a trace's ticks, whole or not
-pub ran-mirror : (a : Airframe) (f : Flight) (whole : Bool) (ts : List Tick)
-    → RunRel (run_result_over a f whole ts) (run_result_over (reflect_airframe a) (reflect_flight f) whole (map reflect_tick ts))
+pub ran-mirror : (a : Airframe) (f : Flight) (s : List ℕ) (ts : List Tick)
+    → RunRel (run_result_over a f s ts) (run_result_over (reflect_airframe a) (reflect_flight f) s (map reflect_tick ts))
 unfolding run_result_over ended
-ran-mirror a f true ts =
-    let r = run-mirror (reflect-airframe a) (reflect-flight f) (ticks-mirror ts) in
-    record { answer = refl; state = r.0; count = r.1 }
-ran-mirror a f false ts = record { answer = refl; state = reflect-flight f; count = refl }
+ran-mirror a f s ts = go (is_whole s)
+  where
+    go : (t : Bool) → RunRel (cond t (ended Done (run_of a f ts).flight (run_of a f ts).accepted) (ended WrongLength f 0))
+        (cond t (ended Done (run_of (reflect_airframe a) (reflect_flight f) (map reflect_tick ts)).flight
+        (run_of (reflect_airframe a) (reflect_flight f) (map reflect_tick ts)).accepted) (ended WrongLength (reflect_flight f) 0))
+    go true = let r = run-mirror (reflect-airframe a) (reflect-flight f) (ticks-mirror ts) in record { answer = refl; state = r.0; count = r.1 }
+    go false = record { answer = refl; state = reflect-flight f; count = refl }
 
 -- ---- the ranges
 in-range : (a : Airframe) (start f : Flight) → outside_of f ≡ 0 → Running f → UnusedUnchanged a start f → InRange a start f

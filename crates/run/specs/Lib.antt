@@ -2,5 +2,4 @@
 pub mod Run
 pub mod Calls
 pub mod Mirrored
-pub mod Bus
 pub mod Promises

@@ -1,6 +1,6 @@
 -- 01, "A run by demand 2's definition": ticks one by one, always with the same airframe; a tick starts from what the tick before
 -- it handed back, after a refusal too. Definitions only.
-use Rattle.std.specs.Prelude.{◌+◌, ℕ, eqb, Float, Bool, cond}
+use Rattle.std.specs.Prelude.{◌+◌, ℕ, eqb, Float, cond}
 use mathlib.Core.List.{List, [], ◌∷◌, foldl}
 use Rattle.airframe.specs.declared.Airframe.{Airframe}
 use Rattle.answers.specs.Answers.{is_done, number_of, place_of}
@@ -8,7 +8,6 @@ use Rattle.answers.specs.declared.Answer.{Answer}
 use Rattle.answers.specs.declared.Answer.TheVariants.{Done, WrongLength}
 use Rattle.flight.specs.declared.Flight.{Flight}
 use Rattle.flight.specs.declared.Tick.{Tick}
-use Rattle.trace.specs.Bus.{bus_is_whole, bus_ticks_of}
 use Rattle.trace.specs.Trace.{is_whole, ticks_of}
 use Rattle.wing.specs.Tick.{tick_of}
 use Rattle.wing.specs.declared.TickResult.{TickResult}
@@ -75,15 +74,10 @@ accepted_in (k ∷ ks) = cond (eqb k.answer 0) 1 0 + accepted_in ks
 unfoldable pub ended : Answer → Flight → ℕ → RunResult
 ended x f n = record { answer = x; flight = f; accepted = n }
 
--- bytes that are not whole ticks: 1, the given state and 0; else 0, with the run's last state and count
-unfoldable pub run_result_over : Airframe → Flight → Bool → List Tick → RunResult
-run_result_over a f whole ts =
-    cond whole (ended Done (run_of a f ts).flight (run_of a f ts).accepted) (ended WrongLength f 0)
+-- a trace that is not whole ticks: 1, the given state and 0; else 0, with the run's last state and count
+unfoldable pub run_result_over : Airframe → Flight → List ℕ → List Tick → RunResult
+run_result_over a f s ts =
+    cond (is_whole s) (ended Done (run_of a f ts).flight (run_of a f ts).accepted) (ended WrongLength f 0)
 
--- over a trace of tick blocks
 unfoldable pub run_result_of : Airframe → Flight → List ℕ → RunResult
-run_result_of a f s = run_result_over a f (is_whole s) (ticks_of s)
-
--- over a trace off the servo bus (02, 7)
-unfoldable pub bus_result_of : Airframe → Flight → List ℕ → RunResult
-bus_result_of a f s = run_result_over a f (bus_is_whole s) (bus_ticks_of s)
+run_result_of a f s = run_result_over a f s (ticks_of s)

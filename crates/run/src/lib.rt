@@ -1,10 +1,10 @@
-// The run over a trace of ticks, of tick blocks or off the servo bus, and the mirrored pair of runs.
+// The run over a trace of ticks, and the mirrored pair of runs.
 #![tactic(auto)]
 
 ghost use Rattle.std.specs.Prelude.{◌≡◌, ◌<◌, ◌≤◌, true};
 ghost use Rattle.airframe.specs.Acceptance.{refused_place};
 ghost use Rattle.flight.specs.Envelope.{is_inside};
-ghost use Rattle.run.specs.Bus as Bus;
+ghost use Rattle.trace.specs.Trace.{tick_at, tick_count};
 ghost use Rattle.run.specs.Promises as Promises;
 ghost use Rattle.run.specs.Run as Run;
 ghost use Rattle.run.specs.Mirrored as Mirrored;
@@ -21,14 +21,6 @@ pub struct RunResult {
     pub accepted: u64,
 }
 
-// What a run goes over: the tick blocks of a trace, the same reflected, or the ticks of a trace off the servo bus.
-#[derive(Drop)]
-enum Track {
-    Blocks,
-    Reflected,
-    Bus,
-}
-
 // A run and its reflection.
 #[derive(Drop)]
 pub struct Pair {
@@ -40,33 +32,26 @@ pub struct Pair {
 pub fn run(a: Airframe, f: Flight, trace: &[u8]) -> RunResult
     ensures { result ≡ Run.run_result_of a f trace.now }
 {
-    run_track(a, f, trace, Track::Blocks)
-}
-
-// The same over a trace off the servo bus, whose ticks are taken from its bytes as they are flown.
-pub fn run_bus(a: Airframe, f: Flight, bus: &[u8]) -> RunResult
-    ensures { Bus.BusPromise a f bus.now result }
-{
-    run_track(a, f, bus, Track::Bus)
+    run_track(a, f, trace, false)
 }
 
 // Flies the trace and, from the reflected state with the reflected airframe, its reflection.
 pub fn mirrored_pair(a: Airframe, f: Flight, trace: &[u8]) -> Pair
     ensures { Mirrored.PairPromise a f trace.now result }
 {
-    let first = run_track(a, f, trace, Track::Blocks);
-    let second = run_track(a.reflected(), f.reflected(), trace, Track::Reflected);
+    let first = run_track(a, f, trace, false);
+    let second = run_track(a.reflected(), f.reflected(), trace, true);
     Pair { first, second }
 }
 
-// The run over a track.
-fn run_track(a: Airframe, f: Flight, trace: &[u8], track: Track) -> RunResult
-    ensures { result ≡ Promises.track_result track a f trace.now }
+// The run over the trace's track, or over the reflected track.
+fn run_track(a: Airframe, f: Flight, trace: &[u8], reflect: bool) -> RunResult
+    ensures { result ≡ Promises.track_result reflect a f trace.now }
 {
-    if is_whole(trace, track) {
+    if trace::is_whole(trace) {
         if a.refused_place() == 0 {
             if f.is_inside() {
-                return fly_all(a, f, trace, track);
+                return fly_all(a, f, trace, reflect);
             }
             return ended(Answer::Done, f, 0);
         }
@@ -87,12 +72,12 @@ fn ended(answer: Answer, flight: Flight, accepted: u64) -> RunResult
 
 // The ticks one after the other, of an airframe and a state that are accepted: neither is tested again, since each state that is
 // kept was tested as the next one.
-fn fly_all(a: Airframe, f: Flight, trace: &[u8], track: Track) -> RunResult
+fn fly_all(a: Airframe, f: Flight, trace: &[u8], reflect: bool) -> RunResult
     requires fact_1 { refused_place a ≡ 0 }
     requires fact_2 { is_inside f ≡ true }
-    ensures { result ≡ Promises.track_flown track a f trace.now }
+    ensures { result ≡ Promises.track_flown reflect a f trace.now }
 {
-    let count = tick_count(trace, track);
+    let count = trace::tick_count(trace);
     let mut flight = f;
     let powers = libm::powers_of_two();
     let densities = air::densities();
@@ -100,7 +85,7 @@ fn fly_all(a: Airframe, f: Flight, trace: &[u8], track: Track) -> RunResult
     let mut accepted = 0u64;
     let mut i = 0usize;
     while i < count {
-        let t = tick_at(trace, i, track);
+        let t = tick_at(trace, i, reflect);
         lags = wing::cached_lag_factors(a, lags, t.step_s, &powers);
         let done = wing::tick_inside(a, flight, t, lags, &powers, &densities);
         let report = done.report;
@@ -112,38 +97,16 @@ fn fly_all(a: Airframe, f: Flight, trace: &[u8], track: Track) -> RunResult
     ended(Answer::Done, flight, accepted)
 }
 
-// Whether the bytes are whole ticks.
-fn is_whole(trace: &[u8], track: Track) -> bool
-    ensures { result ≡ Promises.track_whole track trace.now }
+// The trace's tick i, as it is or reflected.
+fn tick_at(trace: &[u8], i: usize, reflect: bool) -> Tick
+    requires { i < tick_count trace.now }
+    ensures { result ≡ Promises.reflected_if reflect (tick_at trace.now i) }
 {
-    match track {
-        Track::Blocks => trace::is_whole(trace),
-        Track::Reflected => trace::is_whole(trace),
-        Track::Bus => trace::bus_is_whole(trace),
+    let t = trace::tick_at(trace, i);
+    if reflect {
+        return t.reflected();
     }
-}
-
-// How many ticks the track has.
-fn tick_count(trace: &[u8], track: Track) -> usize
-    ensures { result ≡ Promises.track_count track trace.now }
-{
-    match track {
-        Track::Blocks => trace::tick_count(trace),
-        Track::Reflected => trace::tick_count(trace),
-        Track::Bus => trace::bus_tick_count(trace),
-    }
-}
-
-// The track's tick i.
-fn tick_at(trace: &[u8], i: usize, track: Track) -> Tick
-    requires { i < Promises.track_count track trace.now }
-    ensures { result ≡ Promises.track_at track trace.now i }
-{
-    match track {
-        Track::Blocks => trace::tick_at(trace, i),
-        Track::Reflected => trace::tick_at(trace, i).reflected(),
-        Track::Bus => trace::bus_tick_at(trace, i),
-    }
+    t
 }
 
 fn one_if_done(answer: Answer) -> u64

@@ -1,7 +1,4 @@
--- Laws of the tick block, of traces of ticks, of the servo bus's counts and of traces off it.
+-- Laws of the tick block, and of traces of ticks.
 pub mod Tick
-pub mod Counts
-pub mod Words
-pub mod Conversion
+pub mod Trace
 pub mod Reflection
-pub mod Bus

@@ -1,5 +1,5 @@
 -- Flipping the sign bit of the wind's east number in the bytes of a tick reflects the tick, and in those of each tick of a trace its
--- ticks (01, "Reflection negates"): one proof for both forms of a tick (02, 7). Assumes nothing.
+-- ticks (01, "Reflection negates"). Assumes nothing.
 use Prim.Native.Nat.{◌%◌, ◌*◌, ◌+◌, ◌/◌, ◌<◌, ◌≤◌, suc, zero, ℕ}
 use borrow.Author.Tests.{le-leb, lt-leb, ltb-false, ltb-true}
 use lib.Dec.{eqb, leb, ltb}
@@ -9,23 +9,18 @@ use lib.Seq.{get_or-set_other, get_or-set_same}
 use mathlib.Core.Bool.{Bool, cond, false, not, true}
 use mathlib.Core.List.{List, [], ◌∷◌, map}
 use mathlib.Core.Logic.{◌⊎◌, inl, inr}
-use mathlib.Core.Path.{◌∙◌, ◌≡◌, ap, refl, sym}
-use native.Mathlib.Nat.{div-mul-le_self, eq-or-lt_of_le, le_of_suc-le-suc, le_refl, le-suc, le_trans, mul-le-mul_left, mul-suc}
+use mathlib.Core.Path.{◌∙◌, ◌≡◌, ap, ap₂, refl, sym}
+use native.Mathlib.Nat.{div-mul-le_self, eq-or-lt_of_le, le_of_suc-le-suc, le_refl}
 use native.Mathlib.Omega.{arith}
-use Rattle.block_parts.proofs.Bytes.{SameBytes, float-by, floats-by, part, vec-by}
-use Rattle.block_parts.specs.Parts.{float_at, vec_from}
+use Rattle.block_parts.specs.Parts.{float_at, floats_from, number_bytes, slot_from, vec_from}
 use Rattle.flight.specs.Reflection.{reflect_tick}
 use Rattle.flight.specs.declared.Tick.{Tick}
-use Rattle.float.proofs.Lists.{list_of-map, list_of-same}
 use Rattle.float.proofs.Patterns.{of_bits_is}
 use Rattle.float.specs.Bytes.{byte_at}
-use Rattle.float.specs.Lists.{list_of}
 use Rattle.vector.specs.Reflection.{reflect_vec}
-use Rattle.trace.proofs.Words.{counts-by}
-use Rattle.trace.specs.Bus.{bus_tick_at, bus_tick_bytes, bus_tick_count, bus_tick_from, bus_ticks_of}
-use Rattle.trace.specs.Reflection.{flip_sign, reflect_bus, reflect_tick_bytes, reflect_to, reflect_trace}
-use Rattle.trace.specs.Tick.{tick_bytes, tick_from, zero_tick}
-use Rattle.trace.specs.Trace.{tick_at, tick_count, ticks_of}
+use Rattle.trace.specs.Reflection.{flip_sign, reflect_tick_bytes, reflect_to, reflect_trace}
+use Rattle.trace.specs.Tick.{tick_bytes, tick_from, wind_at}
+use Rattle.trace.specs.Trace.{tick_at, tick_count, ticks_from, ticks_of}
 
 neg-odd : (d : ℕ) (s : Bool) (q k l : ℕ) → odd d (not s) q k l ≡ neg (odd d s q k l)
 unfolding odd neg
@@ -90,82 +85,88 @@ flip-same s p l h =
     off : (m : ℕ) → p + suc m ≡ p → ⊥
     off m e = omega arith
 
--- every byte but the one at p is as it was
-off_byte : (s : List ℕ) (p k : ℕ) → (k ≡ p → ⊥) → byte_at (flip_sign s p) k ≡ byte_at s k
-unfolding flip_sign
-off_byte s p k h = get_or-set_other s p k _ 0 h
-
-off-bytes : (s : List ℕ) (p i n : ℕ) → (i + n ≤ p) ⊎ (p < i) → SameBytes s i (flip_sign s p) i n
-off-bytes s p i n h = record { same = λ k l. off_byte s p (i + k) (λ e. off k l h e) }
+flip-other : (s : List ℕ) (p j : ℕ) → (j + 4 ≤ p) ⊎ (p < j) → float_at (flip_sign s p) j ≡ float_at s j
+unfolding float_at flip_sign
+flip-other s p j h =
+    simp (
+      at_other j (omega arith) (omega arith),
+      at_other (j + 1) (omega arith) (omega arith),
+      at_other (j + 2) (omega arith) (omega arith),
+      at_other (j + 3) (omega arith) (omega arith),
+    )
   where
-    off : (k : ℕ) → k < n → (i + n ≤ p) ⊎ (p < i) → i + k ≡ p → ⊥
-    off k l (inl g) e = omega arith
-    off k l (inr g) e = omega arith
+    at_other : (q : ℕ) → j ≤ q → q < j + 4 → byte_at (set s p ((byte_at s p + 128) % 256)) q ≡ byte_at s q
+    at_other q a b = get_or-set_other s p q _ 0 (λ e. off h e)
+      where
+        off : (j + 4 ≤ p) ⊎ (p < j) → q ≡ p → ⊥
+        off (inl g) e = omega arith
+        off (inr g) e = omega arith
 
--- ---- a tick: its bytes, and how it is read from them, in either form (02, 7)
+slots-after : (s : List ℕ) (p i : ℕ) → p < i → floats_from (flip_sign s p) i ≡ floats_from s i
+unfolding floats_from slot_from
+slots-after s p i l = simp (at_slot 0, at_slot 4, at_slot 8, at_slot 12, at_slot 16, at_slot 20, at_slot 24, at_slot 28)
+  where
+    at_slot : (k : ℕ) → float_at (flip_sign s p) (i + k) ≡ float_at s (i + k)
+    at_slot k = flip-other s p (i + k) (inr (omega arith))
 
--- `from s i` is the tick whose `bytes` bytes begin at i: it is told by them alone, and is reflected with them
-pub record Form (bytes : ℕ) (from : List ℕ → ℕ → Tick) : Type 0 where
-  pub some : 12 ≤ bytes
-  pub by_bytes : (s t : List ℕ) (i j : ℕ) → SameBytes s i t j bytes → from t j ≡ from s i
-  pub reflected : (s : List ℕ) (i : ℕ) → i + bytes ≤ length s → Bytes s → from (reflect_tick_bytes s i) i ≡ reflect_tick (from s i)
+-- the tick of the reflected bytes is the reflected tick
+pub reflect-tick-bytes : (s : List ℕ) (i : ℕ) → i + 80 ≤ length s → Bytes s → tick_from (reflect_tick_bytes s i) i ≡ reflect_tick (tick_from s i)
+unfolding tick_from reflect_tick_bytes reflect_tick reflect_vec vec_from
+reflect-tick-bytes s i l h =
+    let p = i + 4 + 4 in
+    simp (
+      flip-other s p i (inl (omega arith)),
+      flip-other s p (i + 4) (inl (omega arith)),
+      flip-same s p (omega arith) h,
+      flip-other s p (i + 4 + 8) (inr (omega arith)),
+      slots-after s p (i + 16) (omega arith),
+      slots-after s p (i + 48) (omega arith),
+    )
 
--- step and wind
-module _ (s : List ℕ) (i : ℕ) (l : i + 12 ≤ length s) (h : Bytes s) where
-  step_same : float_at (flip_sign s (i + 4 + 4)) i ≡ float_at s i
-  step_same = float-by (off-bytes s (i + 4 + 4) i 4 (inl (omega arith))) (omega arith)
+-- ---- a tick that the flipped byte does not stand in
+module _ (s : List ℕ) (p i : ℕ) (h : (p < i) ⊎ (i + 80 ≤ p)) where
+  float-other : (j : ℕ) → i ≤ j → j + 4 ≤ i + 80 → float_at (flip_sign s p) j ≡ float_at s j
+  float-other j a b = flip-other s p j (side h)
+    where
+      side : (p < i) ⊎ (i + 80 ≤ p) → (j + 4 ≤ p) ⊎ (p < j)
+      side (inl g) = inr (omega arith)
+      side (inr g) = inl (omega arith)
 
-  wind-reflected : vec_from (flip_sign s (i + 4 + 4)) (i + 4) ≡ reflect_vec (vec_from s (i + 4))
-  unfolding vec_from reflect_vec
-  wind-reflected =
+  slots-other : (j : ℕ) → i ≤ j → j + 32 ≤ i + 80 → floats_from (flip_sign s p) j ≡ floats_from s j
+  unfolding floats_from slot_from
+  slots-other j a b =
       simp (
-        float-by (off-bytes s (i + 4 + 4) (i + 4) 4 (inl (omega arith))) (omega arith),
-        flip-same s (i + 4 + 4) (omega arith) h,
-        float-by (off-bytes s (i + 4 + 4) (i + 4 + 8) 4 (inr (omega arith))) (omega arith),
+        at_slot 0 (omega arith),
+        at_slot 4 (omega arith),
+        at_slot 8 (omega arith),
+        at_slot 12 (omega arith),
+        at_slot 16 (omega arith),
+        at_slot 20 (omega arith),
+        at_slot 24 (omega arith),
+        at_slot 28 (omega arith),
       )
+    where
+      at_slot : (k : ℕ) → k + 4 ≤ 32 → float_at (flip_sign s p) (j + k) ≡ float_at s (j + k)
+      at_slot k l = float-other (j + k) (omega arith) (omega arith)
 
-  -- the commands stand behind them
-  behind : (j n : ℕ) → i + 12 ≤ j → SameBytes s j (flip_sign s (i + 4 + 4)) j n
-  behind j n b = off-bytes s (i + 4 + 4) j n (inr (omega arith))
-
-pub tick-form : Form tick_bytes tick_from
-unfolding tick_from reflect_tick_bytes reflect_tick
-tick-form = record {
-  some = omega arith;
-  by_bytes =
-      λ s t i j e. simp (float-by e (omega arith), vec-by (part e 4 12 (omega arith)) (omega arith), floats-by (part e 16 32 (omega arith)) (omega arith), floats-by (part e 48 32 (omega arith)) (omega arith));
-  reflected =
-      λ s i l h. let m : i + 12 ≤ length s = omega (arith, l) in
+  tick-other : tick_from (flip_sign s p) i ≡ tick_from s i
+  unfolding tick_from vec_from
+  tick-other =
       simp (
-        step_same s i m h,
-        wind-reflected s i m h,
-        floats-by (behind s i m h (i + 16) 32 (omega arith)) (omega arith),
-        floats-by (behind s i m h (i + 48) 32 (omega arith)) (omega arith),
-      );
-}
-
-pub bus-form : Form bus_tick_bytes bus_tick_from
-unfolding bus_tick_from reflect_tick_bytes reflect_tick
-bus-form = record {
-  some = omega arith;
-  by_bytes =
-      λ s t i j e. simp (float-by e (omega arith), vec-by (part e 4 12 (omega arith)) (omega arith), counts-by (part e 16 16 (omega arith)), counts-by (part e 32 16 (omega arith)));
-  reflected =
-      λ s i l h. let m : i + 12 ≤ length s = omega (arith, l) in
-      simp (
-        step_same s i m h,
-        wind-reflected s i m h,
-        counts-by (behind s i m h (i + 16) 16 (omega arith)),
-        counts-by (behind s i m h (i + 32) 16 (omega arith)),
-      );
-}
+        float-other i (omega arith) (omega arith),
+        float-other (i + 4) (omega arith) (omega arith),
+        float-other (i + 4 + 4) (omega arith) (omega arith),
+        float-other (i + 4 + 8) (omega arith) (omega arith),
+        slots-other (i + 16) (omega arith) (omega arith),
+        slots-other (i + 48) (omega arith) (omega arith),
+      )
 
 -- ---- a trace
 
-length_to : (bytes : ℕ) (s : List ℕ) (n : ℕ) → length (reflect_to bytes s n) ≡ length s
+length_to : (s : List ℕ) (n : ℕ) → length (reflect_to s n) ≡ length s
 unfolding reflect_to reflect_tick_bytes flip_sign
-length_to bytes s zero = refl
-length_to bytes s (suc n) = length-set (reflect_to bytes s n) _ _ ∙ length_to bytes s n
+length_to s zero = refl
+length_to s (suc n) = length-set (reflect_to s n) _ _ ∙ length_to s n
 
 -- a byte stays a byte
 set-byte : (s : List ℕ) (i v : ℕ) → v < 256 → Bytes s → Bytes (set s i v)
@@ -175,75 +176,59 @@ set-byte (x ∷ s) zero v l h (suc k) = h (suc k)
 set-byte (x ∷ s) (suc i) v l h zero = h zero
 set-byte (x ∷ s) (suc i) v l h (suc k) = set-byte s i v l (λ j. h (suc j)) k
 
-bytes-stay : (bytes : ℕ) (s : List ℕ) (n : ℕ) → Bytes s → Bytes (reflect_to bytes s n)
+bytes-stay : (s : List ℕ) (n : ℕ) → Bytes s → Bytes (reflect_to s n)
 unfolding reflect_to reflect_tick_bytes flip_sign
-bytes-stay bytes s zero h = h
-bytes-stay bytes s (suc n) h = set-byte (reflect_to bytes s n) _ _ (small (byte_at (reflect_to bytes s n) _)) (bytes-stay bytes s n h)
+bytes-stay s zero h = h
+bytes-stay s (suc n) h = set-byte (reflect_to s n) _ _ (small (byte_at (reflect_to s n) _)) (bytes-stay s n h)
   where
     small : (b : ℕ) → (b + 128) % 256 < 256
     small b = omega arith
 
--- a tick ends before a later one begins
-ends-before : (bytes i j : ℕ) → i < j → bytes * i + bytes ≤ bytes * j
-ends-before bytes i j l = rw (sym (mul-suc bytes i)) (mul-le-mul_left bytes l)
+-- tick j, before and after the loop has passed it
+not_yet : (s : List ℕ) (n j : ℕ) → n ≤ j → tick_at (reflect_to s n) j ≡ tick_at s j
+unfolding reflect_to reflect_tick_bytes
+not_yet s zero j l = refl
+not_yet s (suc n) j l =
+    tick-other (reflect_to s n) (tick_bytes * n + wind_at + number_bytes) (tick_bytes * j) (inl (omega arith)) ∙ not_yet s n j (omega arith)
 
-module _ {bytes : ℕ} {from : List ℕ → ℕ → Tick} (form : Form bytes from) where
-  -- the ticks before and behind the one whose byte is flipped, which begins at p
-  before : (s : List ℕ) (p i : ℕ) → i + bytes ≤ p → from (reflect_tick_bytes s p) i ≡ from s i
-  unfolding reflect_tick_bytes
-  before s p i l = form.by_bytes _ _ i i (off-bytes s (p + 4 + 4) i bytes (inl (omega arith)))
+elsewhere : (s : List ℕ) (n j : ℕ) → j < n → tick_at (reflect_tick_bytes s (tick_bytes * n)) j ≡ tick_at s j
+unfolding reflect_tick_bytes
+elsewhere s n j l = tick-other s (tick_bytes * n + wind_at + number_bytes) (tick_bytes * j) (inr (omega arith))
 
-  later : (s : List ℕ) (p i : ℕ) → p + bytes ≤ i → from (reflect_tick_bytes s p) i ≡ from s i
-  unfolding reflect_tick_bytes
-  later s p i l = form.by_bytes _ _ i i (off-bytes s (p + 4 + 4) i bytes (inr (omega (arith, form.some))))
+passed : (s : List ℕ) (n j : ℕ) → Bytes s → j < n → n * tick_bytes ≤ length s → tick_at (reflect_to s n) j ≡ reflect_tick (tick_at s j)
+unfolding reflect_to
+passed s zero j h l m = absurd (none j l)
+  where
+    none : (j : ℕ) → j < 0 → ⊥
+    none j l = omega arith
+passed s (suc n) j h l m = go (λ g. passed s n j h g (omega arith)) (eq-or-lt_of_le (le_of_suc-le-suc l))
+  where
+    long : tick_bytes * n + tick_bytes ≤ length (reflect_to s n)
+    long = omega (arith, length_to s n)
 
-  -- tick j, before and after the loop has passed it
-  not_yet : (s : List ℕ) (n j : ℕ) → n ≤ j → from (reflect_to bytes s n) (bytes * j) ≡ from s (bytes * j)
-  unfolding reflect_to
-  not_yet s zero j l = refl
-  not_yet s (suc n) j l = later (reflect_to bytes s n) (bytes * n) (bytes * j) (ends-before bytes n j l) ∙ not_yet s n j (omega arith)
+    go :
+        (j < n → tick_at (reflect_to s n) j ≡ reflect_tick (tick_at s j)) → (j ≡ n) ⊎ (j < n)
+        → tick_at (reflect_tick_bytes (reflect_to s n) (tick_bytes * n)) j ≡ reflect_tick (tick_at s j)
+    go r (inl e) =
+        rw e (reflect-tick-bytes (reflect_to s n) (tick_bytes * n) long (bytes-stay s n h) ∙ ap reflect_tick (not_yet s n n (le_refl n)))
+    go r (inr g) = elsewhere (reflect_to s n) n j g ∙ r g
 
-  passed : (s : List ℕ) (n j : ℕ) → Bytes s → j < n → bytes * n ≤ length s → from (reflect_to bytes s n) (bytes * j) ≡ reflect_tick (from s (bytes * j))
-  unfolding reflect_to
-  passed s zero j h l m = absurd (none j l)
-    where
-      none : (j : ℕ) → j < 0 → ⊥
-      none j l = omega arith
-  passed s (suc n) j h l m = go (λ g. passed s n j h g (le_trans (mul-le-mul_left bytes (le-suc n)) m)) (eq-or-lt_of_le (le_of_suc-le-suc l))
-    where
-      long : bytes * n + bytes ≤ length (reflect_to bytes s n)
-      long = rw (length_to bytes s n, sym (mul-suc bytes n)) m
+ticks-are :
+    (s s' : List ℕ) (i m : ℕ) → ((j : ℕ) → j < i + m → tick_at s' j ≡ reflect_tick (tick_at s j))
+    → ticks_from s' i m ≡ map reflect_tick (ticks_from s i m)
+unfolding ticks_from
+ticks-are s s' i zero h = refl
+ticks-are s s' i (suc m) h =
+    ap₂ (λ (t : Tick) (ts : List Tick). t ∷ ts) (h i (omega arith)) (ticks-are s s' (suc i) m (λ j l. h j (omega (arith, l))))
 
-      go :
-          (j < n → from (reflect_to bytes s n) (bytes * j) ≡ reflect_tick (from s (bytes * j))) → (j ≡ n) ⊎ (j < n)
-          → from (reflect_tick_bytes (reflect_to bytes s n) (bytes * n)) (bytes * j) ≡ reflect_tick (from s (bytes * j))
-      go r (inl e) =
-          rw e (form.reflected (reflect_to bytes s n) (bytes * n) long (bytes-stay bytes s n h) ∙ ap reflect_tick (not_yet s n n (le_refl n)))
-      go r (inr g) = before (reflect_to bytes s n) (bytes * n) (bytes * j) (ends-before bytes j n g) ∙ r g
-
-  -- the ticks of the reflected bytes are the reflected ticks
-  ticks-reflected : (s : List ℕ) (n : ℕ) → Bytes s → bytes * n ≤ length s
-      → list_of (λ (i : ℕ). from (reflect_to bytes s n) (bytes * i)) n ≡ map reflect_tick (list_of (λ (i : ℕ). from s (bytes * i)) n)
-  ticks-reflected s n h m = list_of-same zero_tick _ _ n (λ j l. passed s n j h l m) ∙ sym (list_of-map reflect_tick (λ (i : ℕ). from s (bytes * i)) n)
-
--- ---- the reflected bytes are as many, and their ticks are the reflected ticks: of a trace, and of one off the bus
-
+-- the reflected bytes are as many, and their ticks are the reflected ticks
 pub reflected-length : (s : List ℕ) → length (reflect_trace s) ≡ length s
 unfolding reflect_trace
-reflected-length s = length_to tick_bytes s (tick_count s)
+reflected-length s = length_to s (tick_count s)
 
 pub reflected-ticks : (s : List ℕ) → Bytes s → ticks_of (reflect_trace s) ≡ map reflect_tick (ticks_of s)
 unfolding ticks_of reflect_trace
 reflected-ticks s h =
-    ap (λ (m : ℕ). list_of (tick_at (reflect_trace s)) (m / tick_bytes)) (reflected-length s)
-    ∙ ticks-reflected tick-form s (tick_count s) h (omega (arith, div-mul-le_self (length s) tick_bytes))
-
-pub reflected-bus-length : (s : List ℕ) → length (reflect_bus s) ≡ length s
-unfolding reflect_bus
-reflected-bus-length s = length_to bus_tick_bytes s (bus_tick_count s)
-
-pub reflected-bus-ticks : (s : List ℕ) → Bytes s → bus_ticks_of (reflect_bus s) ≡ map reflect_tick (bus_ticks_of s)
-unfolding bus_ticks_of reflect_bus
-reflected-bus-ticks s h =
-    ap (λ (m : ℕ). list_of (bus_tick_at (reflect_bus s)) (m / bus_tick_bytes)) (reflected-bus-length s)
-    ∙ ticks-reflected bus-form s (bus_tick_count s) h (omega (arith, div-mul-le_self (length s) bus_tick_bytes))
+    let n = tick_count s in
+    ap (λ (m : ℕ). ticks_from (reflect_to s n) 0 (m / tick_bytes)) (length_to s n)
+    ∙ ticks-are s (reflect_to s n) 0 n (λ j l. passed s n j h (omega (arith, l)) (div-mul-le_self (length s) tick_bytes))

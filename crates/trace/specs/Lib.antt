@@ -1,6 +1,4 @@
--- The tick block, traces of ticks, and traces off the servo bus. Definitions only.
+-- The tick block, and traces of ticks. Definitions only.
 pub mod Tick
 pub mod Trace
-pub mod Counts
-pub mod Bus
 pub mod Reflection

@@ -1,8 +1,5 @@
-// Ticks in bytes: the tick block (01, "Blocks"), a trace, one tick block after the other, and a trace off the servo bus (02, 7).
+// Ticks in bytes: the tick block (01, "Blocks"), and a trace, one tick block after the other.
 #![tactic(auto)]
-
-mod count;
-mod servo_bus;
 
 ghost use Rattle.std.specs.Prelude.{◌≡◌, ◌+◌, ◌<◌, ◌≤◌, length};
 ghost use Rattle.block_parts.specs.Parts.{write_answer};
@@ -12,7 +9,6 @@ ghost use Rattle.trace.specs.Trace as Trace;
 use answers::Answer;
 use block_parts::{NUMBER_BYTES, SLOTS_BYTES, VEC_BYTES};
 use flight::Tick;
-pub use servo_bus::{bus_is_whole, bus_tick_at, bus_tick_count, bus_to_trace, trace_to_bus};
 use vector::Vec3;
 
 // A tick block: at which byte each part begins, the step at 0.

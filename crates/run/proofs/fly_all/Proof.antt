@@ -3,6 +3,7 @@ use Prim.Native.Nat.{◌+◌, ◌-◌, ◌≤◌, ℕ}
 use lib.Ieee.{binary32}
 use lib.Ieee.Bits.{of_bits-fits}
 use mathlib.Core.Bool.{true}
+use mathlib.Core.List.{foldl-map}
 use mathlib.Core.Path.{◌∙◌, ◌≡◌, ap, refl, subst, sym}
 use mir.Syntax.{w64}
 use mir.Val.{Fits}
@@ -10,30 +11,30 @@ use native.Mathlib.Omega.{arith}
 use borrow.Author.Rules.{rules}
 use Rattle.answers.specs.declared.Answer.TheVariants.{Done}
 use Rattle.flight.specs.Envelope.{is_inside}
-use Rattle.float.proofs.Lists.{after, after-all, after_more}
-use Rattle.float.specs.Lists.{list_from, list_of}
+use Rattle.trace.proofs.Trace.{after, after-all, after_more}
+use Rattle.trace.specs.Trace.{tick_at, tick_count, ticks_from, ticks_of}
 use Rattle.wing.proofs.Steps.{begin-of-its-step}
 use Rattle.wing.specs.Promises.{FactorsMatchStep}
 use Rattle.wing.specs.declared.TickResult.{TickResult}
 use Rattle.run.proofs.Loop.{progress, stays-inside}
-use Rattle.run.specs.Promises.{track_at, track_count, track_flown}
+use Rattle.run.specs.Promises.{reflected_if, track_flown, track_on}
 use Rattle.run.specs.Run.{Progress, ended, progressed, run_from, run_of}
 use Rattle.run.proofs.fly_all.Statement.{statement}
 use Rattle.run.proofs.fly_all.Tie as tie
 
 abbrev invariant-loop : tie.invariant-loop
-invariant-loop a trace track count flight₀ powers densities lags₀ accepted₀ i₀ flight lags accepted i =
+invariant-loop a trace reflect count flight₀ powers densities lags₀ accepted₀ i₀ flight lags accepted i =
     let start : Progress = record { flight = flight₀; accepted = 0 } in
     (i ≤ count)
     × (accepted ≤ i)
-    × (count ≡ track_count track trace)
-    × (◌≡◌ {A = Progress} (record { flight = flight; accepted = accepted }) (after (progressed a) start (track_at track trace) i))
+    × (count ≡ tick_count trace)
+    × (◌≡◌ {A = Progress} (record { flight = flight; accepted = accepted }) (after (track_on reflect a) start trace i))
     × (is_inside flight ≡ true)
     × FactorsMatchStep a lags
     × Fits w64 (count + 1)
 
 abbrev decreases-loop : tie.decreases-loop
-decreases-loop a trace track count flight₀ powers densities lags₀ accepted₀ i₀ flight lags accepted i = count - i
+decreases-loop a trace reflect count flight₀ powers densities lags₀ accepted₀ i₀ flight lags accepted i = count - i
 
 tick-count-requires : tie.Need-tick-count-requires invariant-loop decreases-loop
 tick-count-requires c κs = search rules
@@ -48,7 +49,7 @@ begin-requires : tie.Need-begin-requires invariant-loop decreases-loop
 begin-requires c κs = search rules
 
 loop-holds : tie.Need-loop-init invariant-loop decreases-loop
-unfolding list_of list_from
+unfolding ticks_from
 loop-holds c =
     let s = c.before.before.before.before in (
       search rules,
@@ -100,7 +101,7 @@ loop-again c =
     let i = s.loop.i in
     let p : Progress = record { flight = s.loop.flight; accepted = s.loop.accepted } in
     let start : Progress = record { flight = a.f; accepted = 0 } in
-    let ticks = track_at a.track a.trace.now in
+    let on = track_on a.reflect a.a in
     let k = c.before.before.before in
     let t = k.before.before.before.before.before in
     let n = c.before.one-if-done in (
@@ -108,8 +109,8 @@ loop-again c =
       search rules,
       s.loop.invariant.2,
       progress a.a p _ t.tick-at.result k.tick-inside.result n.result t.tick-at.ensures k.tick-inside.ensures n.ensures.0
-          ∙ ap (λ (q : Progress). progressed a.a q (ticks i)) s.loop.invariant.3
-          ∙ after_more (progressed a.a) start ticks i,
+          ∙ ap (λ (q : Progress). on q (tick_at a.trace.now i)) s.loop.invariant.3
+          ∙ after_more on start a.trace.now i,
       ap (λ (x : TickResult). is_inside x.flight) k.tick-inside.ensures
           ∙ stays-inside a.a s.loop.flight t.tick-at.result s.loop.invariant.4,
       k.before.before.before.cached-lag-factors.ensures.1,
@@ -125,11 +126,12 @@ returns c =
     let s = c.before.before in
     let a = s.before.before.before.before.before.before.before.args in
     let start : Progress = record { flight = a.f; accepted = 0 } in
+    let trace = a.trace.now in
     c.ended.ensures
     ∙ ap (λ (p : Progress). ended Done p.flight p.accepted)
     (s.loop.invariant.3
-    ∙ after-all (progressed a.a) start (track_at a.track a.trace.now) s.loop.i (track_count a.track a.trace.now)
-    (omega (arith, s.loop.invariant.0, s.loop.invariant.2)) (omega (arith, c.before.loop-test.false, s.loop.invariant.2)))
+    ∙ after-all (track_on a.reflect a.a) start trace s.loop.i (omega arith) (omega (arith, c.before.loop-test.false))
+    ∙ sym (foldl-map (reflected_if a.reflect) (progressed a.a) (ticks_of trace) start))
 
 pub fly-all-spec : {M : Type 1} → statement M
 fly-all-spec =

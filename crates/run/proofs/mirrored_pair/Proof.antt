@@ -7,10 +7,10 @@ use Rattle.airframe.specs.Reflection.{reflect_airframe}
 use Rattle.flight.specs.Reflection.{reflect_flight, reflect_tick}
 use Rattle.float.proofs.Representable.{field-representable}
 use Rattle.trace.proofs.Reflection.{Bytes, reflected-ticks}
-use Rattle.trace.specs.Trace.{is_whole, ticks_of}
+use Rattle.trace.specs.Trace.{ticks_of}
 use Rattle.wing.proofs.Running.{Representable}
 use Rattle.run.proofs.Mirror.{demand3, ran-mirror}
-use Rattle.run.proofs.Loop.{blocks-track, reflected-run, reflected-track}
+use Rattle.run.proofs.Loop.{plain-track, reflected-run, reflected-track}
 use Rattle.run.specs.Promises.{track_result}
 use Rattle.run.specs.Run.{run_result_of, run_result_over}
 use Rattle.run.proofs.mirrored_pair.Statement.{statement}
@@ -47,15 +47,15 @@ returns c =
     let s = a.trace.now in
     let ts = ticks_of s in
     let bytes : Bytes s = λ i. omega (arith, k.shared-slice-known.given i) in
-    let second : c.run-track2.result ≡ run_result_over (reflect_airframe a.a) (reflect_flight a.f) (is_whole s) (map reflect_tick ts) = c.run-track2.ensures
-    ∙ rw (c.before.before.reflected.ensures, c.before.reflected2.ensures, reflected-track s) in
-    let first : c.before.before.before.run-track.result ≡ run_result_over a.a a.f (is_whole s) ts = c.before.before.before.run-track.ensures
-    ∙ ap (run_result_over a.a a.f (is_whole s)) (blocks-track s) in
+    let second : c.run-track2.result ≡ run_result_over (reflect_airframe a.a) (reflect_flight a.f) s (map reflect_tick ts) = c.run-track2.ensures
+    ∙ rw (c.before.before.reflected.ensures, c.before.reflected2.ensures, reflected-track ts) in
+    let first : c.before.before.before.run-track.result ≡ run_result_over a.a a.f s ts = c.before.before.before.run-track.ensures
+    ∙ ap (run_result_over a.a a.f s) (plain-track ts) in
     record {
       first = first;
       second = second ∙ sym (reflected-run (reflect_airframe a.a) (reflect_flight a.f) s bytes);
       ticks = reflected-ticks s bytes;
-      ends = rw (first, second) (ran-mirror a.a a.f (is_whole s) ts);
+      ends = rw (first, second) (ran-mirror a.a a.f s ts);
       demand3 = demand3 a.a a.f (held k.before);
     }
 

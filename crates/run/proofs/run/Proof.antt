@@ -1,8 +1,8 @@
 -- `run::run` meets its contract. Assumes nothing.
 use mathlib.Core.Path.{◌∙◌, ap}
 use borrow.Author.Rules.{rules}
-use Rattle.trace.specs.Trace.{is_whole}
-use Rattle.run.proofs.Loop.{blocks-track}
+use Rattle.trace.specs.Trace.{ticks_of}
+use Rattle.run.proofs.Loop.{plain-track}
 use Rattle.run.specs.Promises.{track_result}
 use Rattle.run.specs.Run.{run_result_of, run_result_over}
 use Rattle.run.proofs.run.Statement.{statement}
@@ -15,7 +15,7 @@ returns : tie.Need-returns
 unfolding track_result run_result_of
 returns c =
     let a = c.before.before.args in
-    c.run-track.ensures ∙ ap (run_result_over a.a a.f (is_whole a.trace.now)) (blocks-track a.trace.now)
+    c.run-track.ensures ∙ ap (run_result_over a.a a.f a.trace.now) (plain-track (ticks_of a.trace.now))
 
 pub run_spec : {M : Type 1} → statement M
 run_spec = tie.close (tie.spec run-track-requires returns)

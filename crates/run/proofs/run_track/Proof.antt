@@ -1,10 +1,12 @@
 -- `run::run_track` meets its contract. Assumes nothing.
-use Rattle.run.specs.Promises.{track_flown, track_result, track_ticks}
+use Rattle.trace.specs.Trace.{ticks_of}
+use Rattle.run.specs.Promises.{reflected_if, track_flown, track_result}
 use Rattle.run.specs.Run.{run_result_over, run_of}
 use Rattle.run.proofs.Loop.{outside-run, refused-run}
 use Rattle.flight.specs.Envelope.{is_inside}
 use Rattle.airframe.specs.Acceptance.{refused_place}
 use mathlib.Core.Path.{◌∙◌, ◌≡◌, sym}
+use mathlib.Core.List.{map}
 use mathlib.Core.Bool.{false}
 use borrow.Author.Rules.{rules}
 use Rattle.run.proofs.run_track.Statement.{statement}
@@ -40,7 +42,7 @@ returns-2 c =
     let o : is_inside a.f ≡ false = sym c.before.before.is-inside.ensures ∙ c.before.if3.false in
     rw (
       sym k.before.is_whole.ensures ∙ k.if1.true,
-      outside-run a.a (record { flight = a.f; accepted = 0 }) (track_ticks a.track a.trace.now) o,
+      outside-run a.a (record { flight = a.f; accepted = 0 }) (map (reflected_if a.reflect) (ticks_of a.trace.now)) o,
     ) c.ended.ensures
 
 ended-requires-2 : tie.Need-ended-requires-2
@@ -54,7 +56,7 @@ returns-3 c =
     let n : refused_place a.a ≡ 0 → ⊥ = λ e. c.before.if2.false (c.before.before.refused-place.ensures ∙ e) in
     rw (
       sym k.before.is_whole.ensures ∙ k.if1.true,
-      refused-run a.a (record { flight = a.f; accepted = 0 }) (track_ticks a.track a.trace.now) n,
+      refused-run a.a (record { flight = a.f; accepted = 0 }) (map (reflected_if a.reflect) (ticks_of a.trace.now)) n,
     ) c.ended2.ensures
 
 ended-requires-3 : tie.Need-ended-requires-3
