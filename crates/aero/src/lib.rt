@@ -21,7 +21,7 @@ const PI: f32 = 3.14159265358979;
 const QUARTER_CHORD: f32 = 0.25;
 
 // What the air does to the aeroplane, with alpha and beta. Vectors are on body axes.
-#[derive(Drop)]
+#[derive(Clone, Copy)]
 pub struct Aero {
     // In N.
     pub force_n: Vec3,
@@ -34,7 +34,7 @@ pub struct Aero {
 }
 
 // What lift, drag and pitch go by, from u and w alone: alpha, what follows from alpha, and Qs.
-#[derive(Drop)]
+#[derive(Clone, Copy)]
 struct Flow {
     alpha_rad: f32,
     blend: f32,

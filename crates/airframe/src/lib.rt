@@ -23,7 +23,7 @@ use quadplane_model::LiftRotors;
 use tailsitter_model::PropWash;
 use vector::Vec3;
 
-#[derive(Drop)]
+#[derive(Clone, Copy)]
 pub struct Airframe {
     pub model: FixedWingModel,
     // Whether there is a wash; where not, `wash` is not looked at.
@@ -39,7 +39,7 @@ pub struct Airframe {
 }
 
 // The constants of the lags: the motors' (place 39), the servos' (34) and, where there are lift numbers, the lift rotors' (56).
-#[derive(Drop)]
+#[derive(Clone, Copy)]
 pub struct LagConstants {
     pub motor_s: f32,
     pub servo_s: f32,
@@ -48,7 +48,7 @@ pub struct LagConstants {
 }
 
 // The least and the largest number of a place.
-#[derive(Drop)]
+#[derive(Clone, Copy)]
 pub struct Limits(f32, f32);
 
 const LIMITS: [Limits; NUMBERS] = [

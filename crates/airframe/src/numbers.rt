@@ -133,7 +133,7 @@ pub const LIFT_TIME_CONSTANT: usize = LIFT_FIRST + 4;
 const LIFT_DRAG: usize = LIFT_FIRST + 5;
 
 // Of a segment: whether it is there, the index of its first number, how many numbers it has, and the place of the first.
-#[derive(Drop)]
+#[derive(Clone, Copy)]
 pub struct Segment {
     pub present: bool,
     pub first: usize,

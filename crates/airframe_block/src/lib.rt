@@ -12,7 +12,7 @@ use answers::Answer;
 use mixers::{MOST_ROWS, MixRow, Rows, Slot};
 
 // What reading an airframe block gives: the reply, and the airframe, all zeros where it is refused.
-#[derive(Drop)]
+#[derive(Clone, Copy)]
 pub struct AirframeRead {
     pub answer: Answer,
     pub airframe: Airframe,
@@ -27,14 +27,14 @@ const ROW_BYTES: usize = 13;
 pub const MOST_BYTES: usize = HEADER_BYTES + block_parts::NUMBER_BYTES * NUMBERS + ROW_BYTES * 31;
 
 // What a block's first two bytes announce: how many bytes it has, or why it is refused whatever follows.
-#[derive(Drop)]
+#[derive(Clone, Copy)]
 pub enum Announced {
     Bytes(usize),
     Refused(Answer),
 }
 
 // What the block's two first bytes say.
-#[derive(Drop)]
+#[derive(Clone, Copy)]
 struct Header {
     version: u8,
     kind: u8,
@@ -132,7 +132,8 @@ pub fn announced_of(a: u8, b: u8) -> Announced
 
 // The numbers of a segment that is there, from byte `at` on, into xs.
 fn read_segment(s: &[u8], at: usize, xs: [f32; NUMBERS], x: Segment) -> [f32; NUMBERS]
-    requires* { ⌜ x.first + x.count ≤ Numbers.numbers_count ⌝ ∗ do ⌜ at + Block.segment_bytes x ≤ (← ⟦s.len()⟧) ⌝ }
+    requires fact_1 { x.first + x.count ≤ Numbers.numbers_count }
+    requires fact_2 { at + Block.segment_bytes x ≤ length s.now }
     ensures { result ≡ Block.put_segment s.now at xs x }
 {
     if x.present {
@@ -148,7 +149,8 @@ fn read_present(
     first: usize,
     count: usize,
 ) -> [f32; NUMBERS]
-    requires* { ⌜ first + count ≤ Numbers.numbers_count ⌝ ∗ do ⌜ at + number_bytes * count ≤ (← ⟦s.len()⟧) ⌝ }
+    requires fact_1 { first + count ≤ Numbers.numbers_count }
+    requires fact_2 { at + number_bytes * count ≤ length s.now }
     ensures { result ≡ Block.put_numbers s.now at xs first count }
 {
     let mut out = xs;
@@ -208,7 +210,8 @@ fn read_row(s: &[u8], i: usize) -> MixRow
 
 // The `count` rows that stand at `start`.
 fn read_rows(s: &[u8], start: usize, count: usize) -> Rows
-    requires* { ⌜ count ≤ most_rows ⌝ ∗ do ⌜ start + Block.row_bytes * count ≤ (← ⟦s.len()⟧) ⌝ }
+    requires fact_1 { count ≤ most_rows }
+    requires fact_2 { start + Block.row_bytes * count ≤ length s.now }
     ensures { result ≡ Block.rows_from s.now start count }
 {
     let empty = MixRow {
@@ -244,7 +247,8 @@ fn bits_clear(b: u8, lift: bool) -> bool
 
 // The first of the `count` rows at `start` with a bit set that must be 0, counted from 1; 0 for none.
 fn reserved_row(s: &[u8], lift: bool, start: usize, count: usize) -> usize
-    requires* { ⌜ count ≤ most_rows ⌝ ∗ do ⌜ start + Block.row_bytes * count ≤ (← ⟦s.len()⟧) ⌝ }
+    requires fact_1 { count ≤ most_rows }
+    requires fact_2 { start + Block.row_bytes * count ≤ length s.now }
     ensures { result ≡ Block.reserved_row s.now lift start count }
 {
     let mut k = 0usize;
@@ -337,7 +341,8 @@ fn tested(airframe: Airframe, rows: Rows) -> AirframeRead
 
 // The block of header `h`, whose length is right: reserved bits of the rows, then the numbers.
 fn read_body(s: &[u8], h: Header) -> AirframeRead
-    requires* { ⌜ h.rows ≤ most_rows ⌝ ∗ do ⌜ Block.bytes_of h ≤ (← ⟦s.len()⟧) ⌝ }
+    requires fact_1 { h.rows ≤ most_rows }
+    requires fact_2 { Block.bytes_of h ≤ length s.now }
     ensures { result ≡ Block.read_body s.now h }
 {
     let start = h.rows_at();

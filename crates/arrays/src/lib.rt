@@ -235,7 +235,7 @@ fn put_numbers(xs: &mut [f32], numbers: &[f32])
 
 // The state's numbers into an array of as many.
 pub fn put_flight(xs: &mut [f32], f: Flight)
-    requires* { do ⌜ (← ⟦xs.len()⟧) ≡ FlightArray.state_numbers_count ⌝ }
+    requires { length xs.old ≡ FlightArray.state_numbers_count }
     ensures { xs.new ≡ FlightArray.flight_numbers f }
 {
     let numbers = flight_numbers(f);
@@ -244,7 +244,7 @@ pub fn put_flight(xs: &mut [f32], f: Flight)
 
 // The tick's numbers into an array of as many.
 pub fn put_tick(xs: &mut [f32], t: Tick)
-    requires* { do ⌜ (← ⟦xs.len()⟧) ≡ FlightArray.tick_numbers_count ⌝ }
+    requires { length xs.old ≡ FlightArray.tick_numbers_count }
     ensures { xs.new ≡ FlightArray.tick_numbers t }
 {
     let numbers = tick_numbers(t);
@@ -507,7 +507,7 @@ fn airframe_number(a: Airframe, k: usize) -> f32
 
 // The airframe's numbers into an array of their count.
 pub fn put_airframe(xs: &mut [f32], a: Airframe)
-    requires* { do ⌜ (← ⟦xs.len()⟧) ≡ AirframeArray.airframe_numbers_count ⌝ }
+    requires { length xs.old ≡ AirframeArray.airframe_numbers_count }
     ensures { xs.new ≡ AirframeArray.airframe_numbers a }
 {
     let mut k = 0usize;

@@ -227,7 +227,7 @@ fn ticked_prepared(airframe: &[f32], f: Flight, t: Tick) -> TickResult
 
 // Alpha, beta and thrust into their array.
 fn put_report(array: &mut [f32], r: Report)
-    requires* { do ⌜ (← ⟦array.len()⟧) ≡ Library.report_numbers_count ⌝ }
+    requires { length array.old ≡ Library.report_numbers_count }
     ensures { array.new ≡ Library.report_numbers r }
 {
     array[0] = r.alpha_rad;
@@ -237,7 +237,7 @@ fn put_report(array: &mut [f32], r: Report)
 
 // The state's numbers into its array, which a refused tick leaves as found.
 fn store_if_accepted(state: &mut [f32], done: TickResult)
-    requires* { do ⌜ (← ⟦state.len()⟧) ≡ state_numbers_count ⌝ }
+    requires { length state.old ≡ state_numbers_count }
     ensures { state.new ≡ Library.state_after_tick state.old done }
 {
     let report = done.report;
@@ -249,7 +249,8 @@ fn store_if_accepted(state: &mut [f32], done: TickResult)
 
 // What a tick gave, into the caller's arrays.
 fn handed_back(done: TickResult, state: &mut [f32], report: &mut [f32]) -> u64
-    requires* { do ⌜ (← ⟦state.len()⟧) ≡ state_numbers_count ⌝ ∗ do ⌜ (← ⟦report.len()⟧) ≡ Library.report_numbers_count ⌝ }
+    requires fact_1 { length state.old ≡ state_numbers_count }
+    requires fact_2 { length report.old ≡ Library.report_numbers_count }
     ensures { let o = Library.tested state.old done in
         (result ≡ o.reply) × (state.new ≡ o.state) × (report.new ≡ o.report) }
 {
@@ -353,7 +354,7 @@ fn pair_by(read: AirframeRead, f: Flight, trace: &[u8]) -> Pair
 
 // A run's end state into its array, which a refused run leaves as found.
 fn put_end(state: &mut [f32], done: RunResult)
-    requires* { do ⌜ (← ⟦state.len()⟧) ≡ state_numbers_count ⌝ }
+    requires { length state.old ≡ state_numbers_count }
     ensures { state.new ≡ Library.state_after_run state.old done }
 {
     let answer = done.answer;

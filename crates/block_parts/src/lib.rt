@@ -40,7 +40,7 @@ pub fn read_floats(s: &[u8], at: usize) -> [f32; 8]
 
 // Writes the vector's three numbers at `at`.
 pub fn write_vec(s: &mut [u8], at: usize, v: Vec3)
-    requires* { do ⌜ at + Parts.vec_bytes ≤ (← ⟦s.len()⟧) ⌝ }
+    requires { at + Parts.vec_bytes ≤ length s.old }
     ensures { s.new ≡ Parts.put_vec s.old at v }
 {
     float::write(s, at, v.x);
@@ -50,7 +50,7 @@ pub fn write_vec(s: &mut [u8], at: usize, v: Vec3)
 
 // Writes the 8 slots' numbers at `at`.
 pub fn write_floats(s: &mut [u8], at: usize, xs: [f32; 8])
-    requires* { do ⌜ at + Parts.slots_bytes ≤ (← ⟦s.len()⟧) ⌝ }
+    requires { at + Parts.slots_bytes ≤ length s.old }
     ensures { s.new ≡ Parts.put_floats s.old at xs 8 }
 {
     let mut k = 0usize;

@@ -11,7 +11,7 @@ use vector::{Quaternion, Vec3};
 const GRAVITY: f32 = 9.80665;
 
 // The first 13 numbers of a state.
-#[derive(Drop)]
+#[derive(Clone, Copy)]
 pub struct Body {
     // Position, in m.
     pub position_ned_m: Vec3,
@@ -24,7 +24,7 @@ pub struct Body {
 }
 
 // Places 1 to 4 of an airframe.
-#[derive(Drop)]
+#[derive(Clone, Copy)]
 pub struct MassProperties {
     pub mass_kg: f32,
     // The principal moments of inertia, about body x, y and z.
@@ -32,14 +32,14 @@ pub struct MassProperties {
 }
 
 // Force and torque on body axes.
-#[derive(Drop)]
+#[derive(Clone, Copy)]
 pub struct Wrench {
     pub force_n: Vec3,
     pub torque_nm: Vec3,
 }
 
 // What acts on the body over a step, without its weight.
-#[derive(Drop)]
+#[derive(Clone, Copy)]
 pub struct Loads {
     // F of module 7, on NED axes.
     pub force_ned_n: Vec3,

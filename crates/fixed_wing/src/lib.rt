@@ -7,7 +7,7 @@ ghost use Rattle.fixed_wing.specs.Falloff.{falloff_share, pitch_speed_share, asp
 use vector::Vec3;
 
 // Thrust by forward airspeed (place 37).
-#[derive(Drop)]
+#[derive(Clone, Copy)]
 pub enum ThrustFalloff {
     // Full thrust lost, in N for each m/s; with 0 thrust does not fall.
     Linear(f32),
@@ -17,7 +17,7 @@ pub enum ThrustFalloff {
 
 // Places 8 to 30 of an airframe, without units but for rad. Their form is that of chapter 4 of Beard and McLain's book, but for
 // what docs/DIFFERENCES.md lists; those of p, q and r go with p·b/2V, q·c/2V and r·b/2V.
-#[derive(Drop)]
+#[derive(Clone, Copy)]
 pub struct AeroCoefficients {
     pub c_lift_0: f32,
     pub c_lift_alpha: f32,
@@ -45,7 +45,7 @@ pub struct AeroCoefficients {
 }
 
 // The aeroplane without its motors, whose full thrust, exponent and lag the Rust has here and this code with the group of motors.
-#[derive(Drop)]
+#[derive(Clone, Copy)]
 pub struct FixedWingModel {
     pub mass_kg: f32,
     // About body x, y and z.

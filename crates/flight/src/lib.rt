@@ -11,7 +11,7 @@ use body::Body;
 use vector::{Quaternion, Vec3};
 
 // The body's 13 numbers on NED world axes and FRD body axes, the commands that motors and servos run at, and how strong each motor is.
-#[derive(Drop)]
+#[derive(Clone, Copy)]
 pub struct Flight {
     // Position.
     pub north_m: f32,
@@ -39,7 +39,7 @@ pub struct Flight {
 }
 
 // One tick's step, wind (NED) and commands.
-#[derive(Drop)]
+#[derive(Clone, Copy)]
 pub struct Tick {
     pub step_s: f32,
     pub wind_ned_mps: Vec3,

@@ -14,7 +14,7 @@ use surfaces::{Factors, Surfaces};
 use vector::Vec3;
 
 // What the rows read so far fill.
-#[derive(Drop)]
+#[derive(Clone, Copy)]
 pub struct Mix {
     pub motors: MotorGroup,
     pub lift: MotorGroup,

@@ -6,7 +6,7 @@ ghost use Rattle.libm.specs.Promises as Promises;
 ghost use Rattle.libm.specs.Log as Log;
 
 // A number above 0 as mantissa times 2 to the exponent, the mantissa at least 0.70710677 and less than its double.
-#[derive(Drop)]
+#[derive(Clone, Copy)]
 struct Split {
     mantissa: f32,
     exponent: i64,

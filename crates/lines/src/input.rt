@@ -8,7 +8,7 @@ use crate::{errors, text};
 use libc::STDIN_FILENO;
 
 // What the program is asked to read: the file that its argument names, standard input, or nothing.
-#[derive(Drop)]
+#[derive(Clone, Copy)]
 pub enum Asked {
     File,
     StandardInput,
@@ -87,7 +87,8 @@ pub struct Filled {
 
 // One read into s from `from` up to `to`.
 fn read_on(fd: i32, s: &mut [u8], from: usize, to: usize) -> Filled
-    requires* { do ⌜ from ≤ to ⌝ ∗ ⌜ to ≤ (← ⟦s.len()⟧) ⌝ }
+    requires fact_1 { from ≤ to }
+    requires fact_2 { to ≤ length s.old }
     ensures { (from ≤ result.end) × (result.end ≤ to) }
 {
     let got = libc::read(fd, &mut s[from..to]);
@@ -100,7 +101,8 @@ fn read_on(fd: i32, s: &mut [u8], from: usize, to: usize) -> Filled
 
 // Reads on into s from `from` up to `to`, the end of the input, or a read that fails.
 pub fn fill(fd: i32, s: &mut [u8], from: usize, to: usize) -> Filled
-    requires* { do ⌜ from ≤ to ⌝ ∗ ⌜ to ≤ (← ⟦s.len()⟧) ⌝ }
+    requires fact_1 { from ≤ to }
+    requires fact_2 { to ≤ length s.old }
     ensures fact_1 { from ≤ result.end }
     ensures fact_2 { result.end ≤ to }
 {

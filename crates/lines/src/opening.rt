@@ -46,7 +46,7 @@ fn airframe_in(s: &[u8], end: usize) -> AirframeRead
 }
 
 // What the airframe block gives, and whether a read of it failed.
-#[derive(Drop)]
+#[derive(Clone, Copy)]
 struct AirframeOpened {
     read: AirframeRead,
     failed: bool,

@@ -13,7 +13,7 @@ use mixers::{MixRow, Rows, Slot};
 use vector::Vec3;
 
 // What all motors of a group have in common but their lag: places 40, 41, 35 and 36, or 54, 55, 52 and 53.
-#[derive(Drop)]
+#[derive(Clone, Copy)]
 pub struct MotorLayout {
     // The arm of a roll or pitch factor of 1.
     pub moment_arm_m: f32,
@@ -25,7 +25,7 @@ pub struct MotorLayout {
 }
 
 // A group of motors: what of it stays as it is in flight.
-#[derive(Drop)]
+#[derive(Clone, Copy)]
 pub struct MotorGroup {
     pub layout: MotorLayout,
     // Of their lag.
@@ -37,7 +37,7 @@ pub struct MotorGroup {
 }
 
 // A group, its running values and its thrust scales.
-#[derive(Drop)]
+#[derive(Clone, Copy)]
 pub struct Motors {
     pub group: MotorGroup,
     pub running: [f32; 8],
@@ -46,7 +46,7 @@ pub struct Motors {
 }
 
 // Sums over the 8 slots; thrust is along the group's axis.
-#[derive(Drop)]
+#[derive(Clone, Copy)]
 pub struct MotorWrench {
     pub thrust_n: f32,
     pub torque_nm: Vec3,

@@ -11,7 +11,7 @@ use motors::{MotorGroup, Motors};
 use vector::Vec3;
 
 // Places 52 to 57 of an airframe, and what its rows say of lift rotors.
-#[derive(Drop)]
+#[derive(Clone, Copy)]
 pub struct LiftRotors {
     pub motors: MotorGroup,
     // In-plane drag, in N for each m/s of air and each N of thrust.

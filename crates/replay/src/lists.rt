@@ -3,7 +3,7 @@ ghost use Rattle.std.specs.Prelude.{◌≤◌};
 
 use crate::{actuators, elementary, modules};
 
-#[derive(Drop)]
+#[derive(Clone, Copy)]
 pub enum List {
     Sqrtf,
     Expf,

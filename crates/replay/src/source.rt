@@ -43,8 +43,8 @@ fn to_front(buf: &mut [u8; PAGE_BYTES], at: usize, end: usize)
 
 // Reads on into the buffer from n, and answers how many bytes came.
 fn read_behind(fd: i32, buf: &mut [u8], n: usize) -> usize
-    requires* { do ⌜ n ≤ (← ⟦buf.len()⟧) ⌝ }
-    ensures* { do ⌜ n + result ≤ (← (⟦buf.len()⟧).entry) ⌝ }
+    requires { n ≤ length buf.old }
+    ensures { n + result ≤ length buf.old }
 {
     io::read_full(fd, &mut buf[n..])
 }

@@ -14,7 +14,7 @@ use answers::Answer;
 use flight::{Flight, Tick};
 
 // A run's answer, 0 or 1, its end state and how many of its ticks were accepted.
-#[derive(Drop)]
+#[derive(Clone, Copy)]
 pub struct RunResult {
     pub answer: Answer,
     pub flight: Flight,
@@ -22,7 +22,7 @@ pub struct RunResult {
 }
 
 // A run and its reflection.
-#[derive(Drop)]
+#[derive(Clone, Copy)]
 pub struct Pair {
     pub first: RunResult,
     pub second: RunResult,

@@ -34,7 +34,7 @@ pub const LIFT_AT: usize = SCALES_AT + SLOTS_BYTES;
 pub const STATE_BYTES: usize = LIFT_AT + SLOTS_BYTES;
 
 // What reading a state block gives: the reply, and the state, all zeros where it is refused.
-#[derive(Drop)]
+#[derive(Clone, Copy)]
 pub struct StateRead {
     pub answer: Answer,
     pub flight: Flight,
@@ -125,7 +125,7 @@ pub fn read_full_state(s: &[u8]) -> StateRead
 }
 
 fn write_attitude(s: &mut [u8], at: usize, q: Quaternion)
-    requires* { do ⌜ at + Layout.attitude_bytes ≤ (← ⟦s.len()⟧) ⌝ }
+    requires { at + Layout.attitude_bytes ≤ length s.old }
     ensures { s.new ≡ Layout.put_attitude s.old at q }
 {
     float::write(s, at, q.w);
@@ -135,7 +135,7 @@ fn write_attitude(s: &mut [u8], at: usize, q: Quaternion)
 }
 
 fn write_body(s: &mut [u8], at: usize, b: Body)
-    requires* { do ⌜ at + Layout.motors_at ≤ (← ⟦s.len()⟧) ⌝ }
+    requires { at + Layout.motors_at ≤ length s.old }
     ensures { s.new ≡ Layout.put_body s.old at b }
 {
     block_parts::write_vec(s, at, b.position_ned_m);
@@ -145,7 +145,7 @@ fn write_body(s: &mut [u8], at: usize, b: Body)
 }
 
 fn write_flight(s: &mut [u8], at: usize, f: Flight)
-    requires* { do ⌜ at + Layout.state_bytes ≤ (← ⟦s.len()⟧) ⌝ }
+    requires { at + Layout.state_bytes ≤ length s.old }
     ensures { s.new ≡ Layout.put_flight s.old at f }
 {
     let motors = f.motors;

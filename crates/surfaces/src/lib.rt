@@ -8,7 +8,7 @@ use mixers::{MixRow, Rows, Slot};
 use vector::Vec3;
 
 // All 8 servos. An axis takes each of them by its weight, so that servos which stand at their factors deflect it fully.
-#[derive(Drop)]
+#[derive(Clone, Copy)]
 pub struct Surfaces {
     // By slot, for roll, pitch and yaw: its factor times the inverse of the axis's squares; 0 where these are 0.
     pub weights: [Vec3; 8],
@@ -17,7 +17,7 @@ pub struct Surfaces {
 }
 
 // What the servo rows say, by slot.
-#[derive(Drop)]
+#[derive(Clone, Copy)]
 pub struct Factors {
     pub at: [Vec3; 8],
 }

@@ -5,7 +5,7 @@ ghost use Rattle.std.specs.Prelude.{◌≡◌};
 ghost use Rattle.tailsitter_model.specs.Slipstream as Slipstream;
 
 // The five results of module 5, all 0 without a wash.
-#[derive(Drop)]
+#[derive(Clone, Copy)]
 pub struct Wash {
     // Added to the free stream's pressure on the surfaces, in Pa; below 0 it takes from that.
     pub pressure_pa: f32,
@@ -20,7 +20,7 @@ pub struct Wash {
 }
 
 // Places 42 to 48 of an airframe.
-#[derive(Drop)]
+#[derive(Clone, Copy)]
 pub struct PropWash {
     // All propellers' discs together.
     pub disc_area_m2: f32,

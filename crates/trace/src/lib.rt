@@ -21,7 +21,7 @@ pub const SERVO_COMMANDS_AT: usize = MOTOR_COMMANDS_AT + SLOTS_BYTES;
 pub const TICK_BYTES: usize = SERVO_COMMANDS_AT + SLOTS_BYTES;
 
 // What reading a tick block gives: the reply, and the tick, all zeros where it is refused.
-#[derive(Drop)]
+#[derive(Clone, Copy)]
 pub struct TickRead {
     pub answer: Answer,
     pub tick: Tick,
@@ -79,7 +79,7 @@ pub fn read_tick_block(s: &[u8]) -> TickRead
 
 // The tick's bytes into `s` at `at`.
 fn write_tick_at(s: &mut [u8], at: usize, t: Tick)
-    requires* { do ⌜ at + Block.tick_bytes ≤ (← ⟦s.len()⟧) ⌝ }
+    requires { at + Block.tick_bytes ≤ length s.old }
     ensures { s.new ≡ Block.put_tick s.old at t }
 {
     let motors = t.motors;

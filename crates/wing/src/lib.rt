@@ -24,7 +24,7 @@ use tailsitter_model::Wash;
 use vector::Vec3;
 
 // Loads, and what a tick reports besides its answer.
-#[derive(Drop)]
+#[derive(Clone, Copy)]
 pub struct Loaded {
     pub loads: Loads,
     pub alpha_rad: f32,
@@ -33,7 +33,7 @@ pub struct Loaded {
 }
 
 // What a tick reports; alpha, beta and thrust are 0 where it is refused.
-#[derive(Drop)]
+#[derive(Clone, Copy)]
 pub struct Report {
     pub answer: Answer,
     pub alpha_rad: f32,
@@ -42,14 +42,14 @@ pub struct Report {
 }
 
 // A tick's report and the state it hands back.
-#[derive(Drop)]
+#[derive(Clone, Copy)]
 pub struct TickResult {
     pub report: Report,
     pub flight: Flight,
 }
 
 // The lag factors of a step, with the bits of that step: they are reused while the step has the same bits.
-#[derive(Drop)]
+#[derive(Clone, Copy)]
 pub struct LagFactors {
     pub step_bits: u32,
     pub motor: f32,
