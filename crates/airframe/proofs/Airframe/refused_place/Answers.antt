@@ -1,0 +1,8 @@
+-- `airframe::Airframe::refused_place` meets its contract. Assumes nothing.
+use borrow.Author.Rules.{rules}
+use Rattle.airframe.specs.Acceptance.{refused_place}
+use Rattle.airframe.proofs.Airframe.refused_place.Goals as goal
+
+pub returns : goal.returns
+unfolding refused_place
+returns c = c.lowest_place.ensures

@@ -1,0 +1,13 @@
+-- `airframe::lift_torques_outside` meets its contract. Assumes nothing.
+use lib.Ieee.{of_bits, round}
+use Rattle.airframe.specs.Acceptance.{lift_torques_outside}
+use borrow.Author.Rules.{rules}
+use Rattle.airframe.proofs.lift_torques_outside.Goals as goal
+
+pub returns-then-present : goal.returns-then-present
+unfolding lift_torques_outside of_bits round
+returns-then-present c = simp (c.vectors_outside.ensures, c.if-present.true)
+
+pub returns : goal.returns
+unfolding lift_torques_outside
+returns c = simp c.if-present.false

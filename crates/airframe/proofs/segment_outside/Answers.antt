@@ -1,0 +1,12 @@
+-- `airframe::segment_outside` meets its contract. Assumes nothing.
+use borrow.Author.Rules.{rules}
+use Rattle.airframe.specs.Acceptance.{segment_outside}
+use Rattle.airframe.proofs.segment_outside.Goals as goal
+
+pub returns-then-s : goal.returns-then-s
+unfolding segment_outside
+returns-then-s c = simp (c.after.ensures, c.first_outside.ensures.fact_1, c.if-s.true)
+
+pub returns : goal.returns
+unfolding segment_outside
+returns c = simp c.if-s.false

@@ -1,0 +1,14 @@
+-- `airframe::vectors_outside` meets its contract. Assumes nothing.
+use Rattle.airframe.specs.Acceptance.{vectors_outside}
+use Rattle.ordered.proofs.Ordered.{pass-none, pass-some, some-eqb}
+use mathlib.Core.Path.{◌∙◌, sym}
+use borrow.Author.Rules.{rules}
+use Rattle.airframe.proofs.vectors_outside.Goals as goal
+
+pub returns-then-vectors_inside : goal.returns-then-vectors_inside
+unfolding vectors_outside
+returns-then-vectors_inside c = rw (pass-none _ 8 (sym c.vectors_inside.ensures ∙ c.if-vectors_inside.true))
+
+pub returns : goal.returns
+unfolding vectors_outside
+returns c = rw (some-eqb _ (pass-some _ 8 (sym c.vectors_inside.ensures ∙ c.if-vectors_inside.false)))

@@ -1,0 +1,8 @@
+-- `airframe_block::Header::bytes` meets its contract. Assumes nothing.
+use borrow.Author.Rules.{rules}
+use Rattle.airframe_block.specs.Block.{bytes_of}
+use Rattle.airframe_block.proofs.Header.bytes.Goals as goal
+
+pub returns : goal.returns
+unfolding bytes_of
+returns c = simp c.rows_at-start.ensures.fact_1

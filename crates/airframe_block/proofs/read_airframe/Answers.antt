@@ -1,0 +1,53 @@
+-- `airframe_block::read_airframe` meets its contract. Assumes nothing.
+use mathlib.Core.Path.{◌∙◌, ap, sym}
+use native.Mathlib.Omega.{arith}
+use borrow.Author.Rules.{rules}
+use borrow.Author.Tests.{lt-ltb}
+use Rattle.airframe_block.proofs.Order.{by-header, by_said, header_refused, length-read, length-refused}
+use Rattle.airframe_block.proofs.Small.{announced-bytes, small-header}
+use Rattle.airframe_block.specs.Block.{read_airframe_of}
+use Rattle.airframe_block.proofs.read_airframe.Goals as goal
+
+pub returns-then-n-lt-HEADER_BYTES : goal.returns-then-n-lt-HEADER_BYTES
+unfolding read_airframe_of
+returns-then-n-lt-HEADER_BYTES c = c.refused.ensures ∙ (simp (lt-ltb _ _ c.if-n-lt-HEADER_BYTES.true))
+
+pub announced-said-requires : goal.announced-said-requires
+announced-said-requires c = small-header _ _ _ c.header_of-h.ensures
+
+-- the length is not the one announced
+pub returns-then-n-to : goal.returns-then-n-to
+returns-then-n-to c = 
+    let said = c in
+    let a = said in
+    let h = a in
+    by-header _ h.header_of-h.result _ h.if-n-lt-HEADER_BYTES.false h.header_of-h.ensures
+    (by_said _ _ _ _ (sym said.said-in-Bytes-1.given.1 ∙ a.announced-said.ensures) (c.refused-then-n-to.ensures ∙ length-refused _ _ _ c.if-n-to.true))
+
+pub read_body-requires : goal.read_body-requires
+read_body-requires c = 
+    let said = c in
+    let a = said in
+    let n = announced-bytes _ _ (sym a.announced-said.ensures ∙ said.said-in-Bytes-1.given.1) in
+    record {
+      fact_1 = n.1;
+      fact_2 = omega (arith, c.if-n-to.false, n.0);
+    }
+
+-- the header is refused
+pub returns-in-Refused : goal.returns-in-Refused
+returns-in-Refused c = 
+    let said = c in
+    let a = said in
+    let h = a in
+    by-header _ h.header_of-h.result _ h.if-n-lt-HEADER_BYTES.false h.header_of-h.ensures
+    (by_said _ _ _ _ (sym said.said-1.given.1 ∙ a.announced-said.ensures) (c.refused-in-Refused.ensures ∙ header_refused _ _ _))
+
+-- the rest is read
+pub returns-else-n-to : goal.returns-else-n-to
+returns-else-n-to c = 
+    let said = c in
+    let a = said in
+    let h = a in
+    by-header _ h.header_of-h.result _ h.if-n-lt-HEADER_BYTES.false h.header_of-h.ensures
+    (by_said _ _ _ _ (sym said.said-in-Bytes-1.given.1 ∙ a.announced-said.ensures) (c.read_body.ensures ∙ length-read _ _ _ c.if-n-to.false))

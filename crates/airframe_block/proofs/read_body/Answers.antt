@@ -1,0 +1,49 @@
+-- `airframe_block::read_body` meets its contract. Assumes nothing.
+use mathlib.Core.Path.{◌∙◌, ap, ap₂, sym}
+use native.Mathlib.Omega.{arith}
+use borrow.Author.Rules.{rules}
+use Rattle.airframe_block.proofs.Order.{body-read, body_refused}
+use Rattle.airframe_block.specs.Block.{airframe_by, bytes_of, tested_block, read_rows, reserved_row, rows_from}
+use Rattle.airframe_block.proofs.read_body.Goals as goal
+
+pub reserved_row-requires-clause-fact_1 : goal.reserved_row-requires-clause-fact_1
+unfolding bytes_of
+reserved_row-requires-clause-fact_1 c = omega arith
+
+pub reserved_row-requires-clause-fact_2 : goal.reserved_row-requires-clause-fact_2
+unfolding bytes_of
+reserved_row-requires-clause-fact_2 c = omega arith
+
+pub returns-then-reserved_row-ne0 : goal.returns-then-reserved_row-ne0
+returns-then-reserved_row-ne0 c = 
+    let b = c in
+    let a = b.args in
+    c.refused.ensures ∙ body_refused a.s.now a.h
+    (λ q. c.if-reserved_row-ne0.true (b.reserved_row.ensures
+    ∙ ap (λ z. reserved_row a.s.now a.h.lift z a.h.rows) b.rows_at-start.ensures.fact_1 ∙ q))
+
+pub read_rows-rows-requires-clause-fact_1 : goal.read_rows-rows-requires-clause-fact_1
+unfolding bytes_of
+read_rows-rows-requires-clause-fact_1 c = omega arith
+
+pub read_rows-rows-requires-clause-fact_2 : goal.read_rows-rows-requires-clause-fact_2
+unfolding bytes_of
+read_rows-rows-requires-clause-fact_2 c = omega arith
+
+pub read_numbers-xs-requires : goal.read_numbers-xs-requires
+unfolding bytes_of
+read_numbers-xs-requires c = omega arith
+
+pub returns : goal.returns
+unfolding read_rows
+returns c = 
+    let r = c in
+    let b = r in
+    let a = b.args in
+    let n = c in
+    let rows = r.read_rows-rows.ensures ∙ ap (λ z. rows_from a.s.now z a.h.rows) b.rows_at-start.ensures.fact_1 in
+    let numbers = n.read_numbers-xs.ensures in
+    c.tested.ensures
+    ∙ ap₂ tested_block (c.airframe_by.ensures ∙ ap₂ (λ x y. airframe_by x a.h y) numbers rows) rows
+    ∙ body-read a.s.now a.h (sym (b.reserved_row.ensures
+    ∙ ap (λ z. reserved_row a.s.now a.h.lift z a.h.rows) b.rows_at-start.ensures.fact_1) ∙ r.if-reserved_row-ne0.false)

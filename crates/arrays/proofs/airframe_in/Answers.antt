@@ -1,0 +1,26 @@
+-- `arrays::airframe_in` meets its contract. Assumes nothing.
+use Rattle.arrays.specs.Airframe.{airframe_in, airframe_with}
+use borrow.Author.Rules.{rules}
+use Rattle.arrays.proofs.airframe_in.Goals as goal
+
+pub returns : goal.returns
+unfolding airframe_in airframe_with
+returns c = 
+    let r = c in
+    let v = r in
+    let m = v in
+    let l = m in
+    let w = l in
+    let k = w in
+    simp (
+      c.from_numbers.ensures,
+      r.group_in-rotors.ensures,
+      r.lift_layout_of-lift_layout.ensures,
+      v.vecs_in-weights.ensures,
+      v.group_in-motors.ensures,
+      m.motor_layout_of-layout.ensures,
+      l.is_set-lift_present.ensures,
+      w.is_set-wash_present.ensures,
+      k.kind_of-kind.ensures,
+      k.numbers_in-numbers.ensures,
+    )

@@ -1,0 +1,12 @@
+-- `arrays::kind_number` meets its contract. Assumes nothing.
+use lib.Ieee.{of_bits, round}
+use borrow.Author.Rules.{rules}
+use Rattle.arrays.proofs.kind_number.Goals as goal
+
+pub returns-in-Linear : goal.returns-in-Linear
+unfolding of_bits round
+returns-in-Linear c = simp c.enum_told-1.given.1
+
+pub returns-in-PitchSpeed : goal.returns-in-PitchSpeed
+unfolding of_bits round
+returns-in-PitchSpeed c = simp c.enum_told-in-PitchSpeed-1.given.1

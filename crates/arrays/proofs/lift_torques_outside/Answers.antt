@@ -1,0 +1,11 @@
+-- `arrays::lift_torques_outside` meets its contract. Assumes nothing.
+use Rattle.airframe.specs.Acceptance.{lift_torques_outside}
+use borrow.Author.Rules.{rules}
+use Rattle.arrays.proofs.lift_torques_outside.Goals as goal
+
+pub returns-then-present : goal.returns-then-present
+returns-then-present c = simp (c.lift_torques_outside.ensures, c.vecs_in.ensures)
+
+pub returns : goal.returns
+unfolding lift_torques_outside
+returns c = simp c.if-present.false

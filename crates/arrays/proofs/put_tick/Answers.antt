@@ -1,0 +1,6 @@
+-- `arrays::put_tick` meets its contract. Assumes nothing.
+use borrow.Author.Rules.{rules}
+use Rattle.arrays.proofs.put_tick.Goals as goal
+
+pub returns : goal.returns
+returns c = cc

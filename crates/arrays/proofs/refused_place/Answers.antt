@@ -1,0 +1,32 @@
+-- `arrays::refused_place` meets its contract. Assumes nothing.
+use mathlib.Core.Path.{◌∙◌, ◌≡◌, sym}
+use Rattle.float.specs.Lists.{list_from, list_of}
+use Rattle.arrays.proofs.Numbers.{array-refused, tests}
+use Rattle.arrays.specs.Airframe.{number_at, numbers_in}
+use borrow.Author.Rules.{rules}
+use Rattle.arrays.proofs.refused_place.Goals as goal
+
+pub returns : goal.returns
+unfolding numbers_in number_at list_of list_from
+returns c = 
+    let r = c in
+    let p = r in
+    let w = p in
+    let t = w in
+    let s = t in
+    let f = s in
+    let k = f in
+    let xs = k.args.xs.now in
+    let e : c.first_refused.result ≡ tests xs (numbers_in xs) =
+    simp (
+      c.first_refused.ensures,
+      r.lift_torques_outside-lift_torque.ensures,
+      p.is_set-lift_present.ensures,
+      w.vecs_in-weights.ensures,
+      t.vecs_in-torques.ensures,
+      s.is_set-wash_present.ensures,
+      f.falloff_of-falloff.ensures,
+      k.kind_of.ensures,
+      k.numbers_in-numbers.ensures,
+    ) in
+    e ∙ sym (array-refused xs)

@@ -1,0 +1,15 @@
+-- `block_parts::write_floats` meets its contract. Assumes nothing.
+use Prim.Native.Nat.{◌-◌, ◌≤◌}
+use lib.ListN.{length, length-set}
+use mathlib.Core.Path.{◌∙◌, ◌≡◌, ap, refl}
+use native.Mathlib.Nat.{le_antisymm}
+use borrow.Author.Rules.{rules}
+use Rattle.block_parts.proofs.Writing.{put-slot}
+use Rattle.block_parts.specs.Parts.{put_float, put_floats}
+use Rattle.block_parts.proofs.write_floats.Given as goal
+
+abbrev pub invariant-loop-k : goal.invariant-loop-k
+invariant-loop-k l = (l.k ≤ 8) × (length l.s ≡ length l.initial.s) × (l.s ≡ put_floats l.initial.s l.at l.xs l.k)
+
+abbrev pub decreases-loop-k : goal.decreases-loop-k
+decreases-loop-k l = 8 - l.k

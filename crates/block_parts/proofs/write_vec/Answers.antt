@@ -1,0 +1,12 @@
+-- `block_parts::write_vec` meets its contract. Assumes nothing.
+use borrow.Author.Rules.{rules}
+use Rattle.block_parts.specs.Parts.{put_float, put_vec}
+use Rattle.block_parts.proofs.write_vec.Goals as goal
+
+pub returns : goal.returns
+unfolding put_vec put_float
+returns c = 
+    let z = c in
+    let y = z in
+    let x = y in
+    simp (z.write-3.ensures, y.write-2.ensures, x.write.ensures)

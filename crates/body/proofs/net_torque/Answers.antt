@@ -1,0 +1,8 @@
+-- `body::net_torque` meets its contract. Assumes nothing.
+use borrow.Author.Rules.{rules}
+use Rattle.body.specs.Motion.{net_torque}
+use Rattle.body.proofs.net_torque.Goals as goal
+
+pub returns : goal.returns
+unfolding net_torque
+returns c = simp (c.sub-2.ensures, c.sub.ensures, c.cross.ensures, c.component_mul-momentum.ensures)

@@ -1,0 +1,26 @@
+-- `flight::slots_inside` meets its contract. Assumes nothing.
+use mathlib.Core.Bool.{Bool, cond, false}
+use Rattle.flight.specs.Envelope.{slot_inside}
+use native.Mathlib.Nat.{le_antisymm}
+use Rattle.ordered.specs.Ordered.{all_pass}
+use Rattle.ordered.proofs.Ordered.{pass-more}
+use borrow.Author.Rules.{rules}
+use mathlib.Core.Path.{◌∙◌, ◌≡◌, ap, refl}
+use Prim.Native.Nat.{◌-◌, ◌≤◌}
+use Rattle.flight.proofs.slots_inside.Goals as goal
+
+pub loop-i-init : goal.loop-i-init
+unfolding all_pass
+loop-i-init c = (search rules, refl)
+
+pub loop-i-preserved : goal.loop-i-preserved
+unfolding slot_inside
+loop-i-preserved c = 
+    let s = c in (
+      search rules,
+      pass-more _ s.loop-i.i s.loop-i.ok _ s.loop-i.invariant.1
+          (c.both-ok.ensures ∙ ap (λ (t : Bool). cond t s.loop-i.ok false) c.inside.ensures),
+    )
+
+pub returns : goal.returns
+returns c = c.loop-i.invariant.1 ∙ ap (all_pass _) (le_antisymm c.loop-i.invariant.0 c.loop-i-test.false)

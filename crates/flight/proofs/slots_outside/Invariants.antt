@@ -1,0 +1,15 @@
+-- `flight::slots_outside` meets its contract. Assumes nothing.
+use Rattle.flight.specs.Envelope.{slot_inside, slots_outside}
+use Rattle.ordered.specs.Ordered.{first_fail}
+use Rattle.ordered.proofs.Ordered.{fail-end, fail-here, fail-next, not-false, not-true, pass-none}
+use borrow.Author.Rules.{rules}
+use native.Mathlib.Omega.{arith}
+use mathlib.Core.Path.{◌∙◌, ◌≡◌, refl, sym}
+use Prim.Native.Nat.{◌-◌, ◌≤◌}
+use Rattle.flight.proofs.slots_outside.Given as goal
+
+abbrev pub invariant-loop-i : goal.invariant-loop-i
+invariant-loop-i l = (l.i ≤ 8) × (first_fail (slot_inside l.low l.high l.values) 0 8 ≡ first_fail (slot_inside l.low l.high l.values) l.i (8 - l.i))
+
+abbrev pub decreases-loop-i : goal.decreases-loop-i
+decreases-loop-i l = 8 - l.i

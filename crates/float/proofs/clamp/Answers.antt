@@ -1,0 +1,15 @@
+-- `float::clamp` meets its contract. Assumes nothing.
+use Rattle.float.specs.Notation.{clamp}
+use Rattle.float.proofs.clamp.Goals as goal
+
+pub returns-then-x-lo : goal.returns-then-x-lo
+unfolding clamp
+returns-then-x-lo c = simp c.if-x-lo.true
+
+pub returns-then-hi-x : goal.returns-then-hi-x
+unfolding clamp
+returns-then-hi-x c = simp (c.if-x-lo.false, c.if-hi-x.true)
+
+pub returns : goal.returns
+unfolding clamp
+returns c = simp (c.if-x-lo.false, c.if-hi-x.false)

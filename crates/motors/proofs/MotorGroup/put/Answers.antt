@@ -1,0 +1,16 @@
+-- `motors::MotorGroup::put` meets its contract. Assumes nothing.
+use Rattle.motors.specs.Motor.{put_motor_at, put_motor_row}
+use borrow.Author.Rules.{rules}
+use Rattle.motors.proofs.MotorGroup.put.Goals as goal
+
+pub returns-in-Motor : goal.returns-in-Motor
+unfolding put_motor_row put_motor_at
+returns-in-Motor c = simp (c.put_motor.ensures, c.torque.ensures, c.slot-1.given.1)
+
+pub returns-in-Servo : goal.returns-in-Servo
+unfolding put_motor_row put_motor_at
+returns-in-Servo c = simp c.enum_told-1.given.1
+
+pub returns-in-Lift : goal.returns-in-Lift
+unfolding put_motor_row put_motor_at
+returns-in-Lift c = simp c.enum_told-in-Lift-1.given.1

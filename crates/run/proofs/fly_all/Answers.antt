@@ -1,0 +1,104 @@
+-- `run::fly_all` meets its contract. Assumes nothing.
+use Prim.Native.Nat.{◌+◌, ◌-◌, ◌≤◌, ℕ}
+use lib.Ieee.{binary32}
+use lib.Ieee.Bits.{of_bits-fits}
+use mathlib.Core.Bool.{true}
+use mathlib.Core.List.{foldl-map}
+use mathlib.Core.Path.{◌∙◌, ◌≡◌, ap, refl, subst, sym}
+use mir.Syntax.{w64}
+use mir.Val.{Fits}
+use native.Mathlib.Omega.{arith}
+use borrow.Author.Rules.{rules}
+use Rattle.answers.specs.declared.Answer.TheVariants.{Done}
+use Rattle.flight.specs.Envelope.{is_inside}
+use Rattle.trace.proofs.Trace.{after, after-all, after_more}
+use Rattle.trace.specs.Trace.{tick_at, tick_count, ticks_from, ticks_of}
+use Rattle.wing.proofs.Steps.{begin-of-its-step}
+use Rattle.wing.specs.Promises.{FactorsMatchStep}
+use Rattle.wing.specs.declared.TickResult.{TickResult}
+use Rattle.run.proofs.Loop.{progress, stays-inside}
+use Rattle.run.specs.Promises.{reflected_if, track_flown, track_on}
+use Rattle.run.specs.Run.{Progress, ended, progressed, run_from, run_of}
+use Rattle.run.proofs.fly_all.Goals as goal
+
+pub loop-i-init : goal.loop-i-init
+unfolding ticks_from
+loop-i-init c = 
+    let s = c in (
+      search rules,
+      search rules,
+      s.tick_count-count.ensures,
+      refl,
+      s.requires.fact_2,
+      subst (FactorsMatchStep _) (sym c.begin-lags.ensures) (begin-of-its-step _ _ (of_bits-fits binary32 _)),
+      search rules,
+    )
+
+pub cached_lag_factors-lags-requires : goal.cached_lag_factors-lags-requires
+cached_lag_factors-lags-requires c = 
+    let s = c in
+    record {
+      fact_1 = s.loop-i.invariant.5;
+      fact_2 = s.powers_of_two-powers.ensures;
+    }
+
+pub tick_inside-done-requires : goal.tick_inside-done-requires
+tick_inside-done-requires c = 
+    let s = c in
+    let begun = s in
+    let start = begun in
+    let factors = c.cached_lag_factors-lags.ensures.fact_1 in
+    record {
+      fact_1 = start.requires.fact_1;
+      fact_2 = s.loop-i.invariant.4;
+      fact_3 = factors;
+      fact_4 = begun.powers_of_two-powers.ensures;
+      fact_5 = begun.densities-densities.ensures;
+    }
+
+pub overflow_add-accepted : goal.overflow_add-accepted
+overflow_add-accepted c = 
+    let t = c in
+    let s = t in
+    record { fits = omega (arith, s.loop-i.invariant.1, t.loop-i-test.true, c.one_if_done-accepted.ensures.fact_2, s.loop-i.invariant.6.fits) }
+
+pub overflow_add-i : goal.overflow_add-i
+overflow_add-i c = 
+    let t = c in
+    record { fits = omega (arith, t.loop-i-test.true, t.loop-i.invariant.6.fits) }
+
+pub loop-i-preserved : goal.loop-i-preserved
+loop-i-preserved c = 
+    let s = c in
+    let a = s.args in
+    let i = s.loop-i.i in
+    let p : Progress = record { flight = s.loop-i.flight; accepted = s.loop-i.accepted } in
+    let start : Progress = record { flight = a.f; accepted = 0 } in
+    let on = track_on a.reflect a.a in
+    let k = c in
+    let t = k in
+    let n = c.one_if_done-accepted in (
+      search rules,
+      search rules,
+      s.loop-i.invariant.2,
+      progress a.a p _ t.tick_at-t.result k.tick_inside-done.result n.result t.tick_at-t.ensures k.tick_inside-done.ensures n.ensures.0
+          ∙ ap (λ (q : Progress). on q (tick_at a.trace.now i)) s.loop-i.invariant.3
+          ∙ after_more on start a.trace.now i,
+      ap (λ (x : TickResult). is_inside x.flight) k.tick_inside-done.ensures
+          ∙ stays-inside a.a s.loop-i.flight t.tick_at-t.result s.loop-i.invariant.4,
+      k.cached_lag_factors-lags.ensures.fact_2,
+      s.loop-i.invariant.6,
+    )
+
+pub returns : goal.returns
+unfolding track_flown run_of run_from
+returns c = 
+    let s = c in
+    let a = s.args in
+    let start : Progress = record { flight = a.f; accepted = 0 } in
+    let trace = a.trace.now in
+    c.ended.ensures
+    ∙ ap (λ (p : Progress). ended Done p.flight p.accepted)
+    (s.loop-i.invariant.3
+    ∙ after-all (track_on a.reflect a.a) start trace s.loop-i.i (omega arith) (omega (arith, c.loop-i-test.false))
+    ∙ sym (foldl-map (reflected_if a.reflect) (progressed a.a) (ticks_of trace) start))

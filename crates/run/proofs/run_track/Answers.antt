@@ -1,0 +1,50 @@
+-- `run::run_track` meets its contract. Assumes nothing.
+use Rattle.trace.specs.Trace.{ticks_of}
+use Rattle.run.specs.Promises.{reflected_if, track_flown, track_result}
+use Rattle.run.specs.Run.{run_result_over, run_of}
+use Rattle.run.proofs.Loop.{outside-run, refused-run}
+use Rattle.flight.specs.Envelope.{is_inside}
+use Rattle.airframe.specs.Acceptance.{refused_place}
+use mathlib.Core.Path.{◌∙◌, ◌≡◌, sym}
+use mathlib.Core.List.{map}
+use mathlib.Core.Bool.{false}
+use borrow.Author.Rules.{rules}
+use Rattle.run.proofs.run_track.Goals as goal
+
+pub fly_all-requires-clause-fact_1 : goal.fly_all-requires-clause-fact_1
+fly_all-requires-clause-fact_1 c = sym c.refused_place.ensures ∙ c.if-refused_place-eq0.true
+
+pub fly_all-requires-clause-fact_2 : goal.fly_all-requires-clause-fact_2
+fly_all-requires-clause-fact_2 c = sym c.is_inside.ensures ∙ c.if-is_inside.true
+
+pub returns-then-is_inside : goal.returns-then-is_inside
+unfolding track_result run_result_over track_flown
+returns-then-is_inside c = 
+    let k = c in
+    rw (sym k.is_whole.ensures ∙ k.if-is_whole.true) c.fly_all.ensures
+
+pub returns-then-refused_place-eq0 : goal.returns-then-refused_place-eq0
+unfolding track_result run_result_over run_of
+returns-then-refused_place-eq0 c = 
+    let k = c in
+    let a = k.args in
+    let o : is_inside a.f ≡ false = sym c.is_inside.ensures ∙ c.if-is_inside.false in
+    rw (
+      sym k.is_whole.ensures ∙ k.if-is_whole.true,
+      outside-run a.a (record { flight = a.f; accepted = 0 }) (map (reflected_if a.reflect) (ticks_of a.trace.now)) o,
+    ) c.ended.ensures
+
+pub returns-then-is_whole : goal.returns-then-is_whole
+unfolding track_result run_result_over run_of
+returns-then-is_whole c = 
+    let k = c in
+    let a = k.args in
+    let n : refused_place a.a ≡ 0 → ⊥ = λ e. c.if-refused_place-eq0.false (c.refused_place.ensures ∙ e) in
+    rw (
+      sym k.is_whole.ensures ∙ k.if-is_whole.true,
+      refused-run a.a (record { flight = a.f; accepted = 0 }) (map (reflected_if a.reflect) (ticks_of a.trace.now)) n,
+    ) c.ended-then-is_whole.ensures
+
+pub returns : goal.returns
+unfolding track_result run_result_over
+returns c = rw (sym c.is_whole.ensures ∙ c.if-is_whole.false) c.ended-2.ensures

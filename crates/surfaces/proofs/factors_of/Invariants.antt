@@ -1,0 +1,16 @@
+-- `surfaces::factors_of` meets its contract: after i iterations the first i rows are put. Assumes nothing.
+use Prim.Native.Nat.{◌-◌, ◌≤◌}
+use mathlib.Core.Path.{◌∙◌, ◌≡◌, ap}
+use native.Mathlib.Nat.{le_antisymm}
+use borrow.Author.Rules.{rules}
+use Rattle.mixers.proofs.Putting.{put-more}
+use Rattle.mixers.specs.Rows.{put_to}
+use Rattle.surfaces.specs.Surface.{factors_of, no_factors, put_servo_row}
+use Rattle.surfaces.specs.declared.Factors.{Factors}
+use Rattle.surfaces.proofs.factors_of.Given as goal
+
+abbrev pub invariant-loop-i : goal.invariant-loop-i
+invariant-loop-i l = (l.i ≤ l.count) × (l.count ≤ 16) × (l.factors ≡ put_to put_servo_row no_factors l.list l.i)
+
+abbrev pub decreases-loop-i : goal.decreases-loop-i
+decreases-loop-i l = l.count - l.i

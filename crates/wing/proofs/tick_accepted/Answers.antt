@@ -1,0 +1,14 @@
+-- `wing::tick_accepted` meets its contract. Assumes nothing.
+use Rattle.wing.specs.Tick.{accepted_tick, tick_of, tick_with}
+use mathlib.Core.Path.{◌∙◌, sym}
+use borrow.Author.Rules.{rules}
+use Rattle.wing.proofs.tick_accepted.Goals as goal
+
+pub tick_inside-requires : goal.tick_inside-requires
+tick_inside-requires c = 
+    let p = c.requires in
+    (p.0, (sym c.is_inside.ensures ∙ c.if-is_inside.true, p.1))
+
+pub returns : goal.returns
+unfolding tick_of tick_with accepted_tick
+returns c = simp (c.refused.ensures, c.requires.fact_1, sym c.is_inside.ensures ∙ c.if-is_inside.false)
