@@ -14,7 +14,7 @@ use Rattle.float.proofs.Bounds.{inside-within}
 use Rattle.float.specs.Interval.{Within, inside}
 use Rattle.float.specs.Notation.{one, rounded}
 use Rattle.mixers.specs.Slots.{at}
-use Rattle.ordered.proofs.Ordered.{after_none, all_pass, or-none}
+use Rattle.ordered.proofs.Ordered.{after_none, all-pass, or-none}
 use Rattle.ordered.specs.Ordered.{after, first_fail}
 use Rattle.airframe.specs.Acceptance.{first_refused, inside_from, limits_at, limits_for, limits_table, lowest_place, number_inside}
 use Rattle.airframe.specs.Acceptance.{range, refused_place, segment_outside}
@@ -29,7 +29,7 @@ segment-pass : (limits : List Limits) (numbers : List Float) (s : Segment) → s
     → k < s.count → inside_from limits numbers s.first k ≡ true
 unfolding segment_outside
 segment-pass limits numbers s p e =
-    all_pass _ s.count (after_none (s.place - 1) _
+    all-pass _ s.count (after_none (s.place - 1) _
     (sym (ap (λ (t : Bool). cond t (after (s.place - 1) (first_fail (inside_from limits numbers s.first) 0 s.count)) 0) p) ∙ e))
 
 -- the exponents' limits in digits, computed apart from what is said of them: where a limit is another, this is refused at once

@@ -36,19 +36,19 @@ pub base-bytes : (x : Segment) → x ≡ base_segment → segment_bytes x ≡ nu
 unfolding segment_bytes
 base-bytes x e = ap segment_bytes e
 
-most_bytes : (x : Segment) → segment_bytes x ≤ number_bytes * x.count
+segment-bytes-at-most : (x : Segment) → segment_bytes x ≤ number_bytes * x.count
 unfolding segment_bytes
-most_bytes x = go x.present
+segment-bytes-at-most x = go x.present
   where
     go : (t : Bool) → cond t (number_bytes * x.count) 0 ≤ number_bytes * x.count
     go true = omega arith
     go false = omega arith
 
 pub wash-bytes : (x : Segment) (present : Bool) → x ≡ wash_segment present → segment_bytes x ≤ number_bytes * wash_count
-wash-bytes x present e = subst (λ (y : Segment). segment_bytes y ≤ number_bytes * wash_count) (sym e) (most_bytes (wash_segment present))
+wash-bytes x present e = subst (λ (y : Segment). segment_bytes y ≤ number_bytes * wash_count) (sym e) (segment-bytes-at-most (wash_segment present))
 
 pub lift-bytes : (x : Segment) (present : Bool) → x ≡ lift_segment present → segment_bytes x ≤ number_bytes * lift_count
-lift-bytes x present e = subst (λ (y : Segment). segment_bytes y ≤ number_bytes * lift_count) (sym e) (most_bytes (lift_segment present))
+lift-bytes x present e = subst (λ (y : Segment). segment_bytes y ≤ number_bytes * lift_count) (sym e) (segment-bytes-at-most (lift_segment present))
 
 pub present-bytes : (x : Segment) → x.present ≡ true → segment_bytes x ≡ number_bytes * x.count
 unfolding segment_bytes

@@ -17,10 +17,10 @@ use Rattle.tailsitter_model.specs.Slipstream.{added_pa, disc_pa}
 use Rattle.vector.specs.Vector.{add_of, component_mul}
 use Rattle.cases.specs.Table.{all_hold, blunt, disc, holds, one_servo, table}
 
-pub all_hold : T (all_hold table)
+pub table-holds : T (all_hold table)
 unfolding all_hold holds table blunt disc one_servo num to_bits approach_of approach_saturated saturated clamp falloff_share
     pitch_speed_share linear_share at_least_zero stall_blend book.blend hold exp_of core poly exp_series horner
     rest binary_exponent near_up near_down atan2_of off_origin sided beyond angle_of atan_near atan_poly abs surfaces_of weighed factors_of
     put_to live_of put_servo_row put_servo_at put_servo weight_at component_mul inverse_of inverse_or_zero squares_of square_at vec_sum_to add_of
     sqrt_of root_units isqrt digits added_pa disc_pa add sub mul div neg lt le eq ne round of_bits of_int to_signed
-all_hold = tt
+table-holds = tt

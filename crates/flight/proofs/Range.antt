@@ -4,7 +4,7 @@ use Prim.Native.Nat.{◌<◌, ℕ}
 use borrow.Author.Tests.{eq-eqb}
 use mathlib.Core.Path.{◌∙◌, ◌≡◌, sym}
 use Rattle.float.proofs.Bounds.{inside-within}
-use Rattle.ordered.proofs.Ordered.{after_none, all_pass, or-none}
+use Rattle.ordered.proofs.Ordered.{after_none, all-pass, or-none}
 use Rattle.float.specs.Interval.{Within}
 use Rattle.float.specs.Notation.{minus_one, zero, one}
 use Rattle.mixers.specs.Slots.{at}
@@ -45,16 +45,16 @@ module _ (f : Flight) (e : outside_of f ≡ 0) where
 
   pub motor-within : (k : ℕ) → k < 8 → Within zero one (at f.motors k)
   unfolding slots_outside slot_inside
-  motor-within k l = inside-within (all_pass (slot_inside zero one f.motors) 8 slots-none.0 k l)
+  motor-within k l = inside-within (all-pass (slot_inside zero one f.motors) 8 slots-none.0 k l)
 
   pub servo-within : (k : ℕ) → k < 8 → Within minus_one one (at f.servos k)
   unfolding slots_outside slot_inside
-  servo-within k l = inside-within (all_pass (slot_inside minus_one one f.servos) 8 slots-none.1 k l)
+  servo-within k l = inside-within (all-pass (slot_inside minus_one one f.servos) 8 slots-none.1 k l)
 
   pub scale-within : (k : ℕ) → k < 8 → Within zero one (at f.thrust_scale k)
   unfolding slots_outside slot_inside
-  scale-within k l = inside-within (all_pass (slot_inside zero one f.thrust_scale) 8 slots-none.2 k l)
+  scale-within k l = inside-within (all-pass (slot_inside zero one f.thrust_scale) 8 slots-none.2 k l)
 
   pub lift-within : (k : ℕ) → k < 8 → Within zero one (at f.lift_motors k)
   unfolding slots_outside slot_inside
-  lift-within k l = inside-within (all_pass (slot_inside zero one f.lift_motors) 8 slots-none.3 k l)
+  lift-within k l = inside-within (all-pass (slot_inside zero one f.lift_motors) 8 slots-none.3 k l)

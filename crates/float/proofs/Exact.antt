@@ -107,6 +107,8 @@ mul-shrinks-up f x a p g q o h = le-trans-float x (mul f x one) (mul f x a) (mul
 -- a value that is m * 2 ^ e with the sign s has the bits that are written for it, so if the format holds both they are the same data
 same_bits : (f : Format) (x : Float) (s : Bool) (m : ℕ) (e : ℤ) → HasValue x s (m * up e) (down e) → to_bits f x ≡ to_bits f (fin s m e)
 unfolding to_bits
+same_bits f nan s m e v = elim v [ ]
+same_bits f (inf _) s m e v = elim v [ ]
 same_bits f (fin t n d) s m e v =
     let bits : Bool → ℕ → ℕ = λ u a. cond u (top f) 0 + (size a - prec f) * hid f + a / 2 ^ (size a - prec f) in
     let l = 2 ^ low f in

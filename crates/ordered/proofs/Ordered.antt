@@ -51,8 +51,8 @@ all_hold ok i (suc n) e (suc k) l = ap ok (shift i k) ∙ all_hold ok (suc i) n 
     shift : (i k : ℕ) → i + suc k ≡ suc i + k
     shift i k = omega arith
 
-pub all_pass : (ok : ℕ → Bool) (n : ℕ) → first_fail ok 0 n ≡ 0 → (k : ℕ) → k < n → ok k ≡ true
-all_pass ok n e k l = sym (ap ok (zero-add k)) ∙ all_hold ok 0 n e k l
+pub all-pass : (ok : ℕ → Bool) (n : ℕ) → first_fail ok 0 n ≡ 0 → (k : ℕ) → k < n → ok k ≡ true
+all-pass ok n e k l = sym (ap ok (zero-add k)) ∙ all_hold ok 0 n e k l
 
 -- ---- where each holds, none fails
 pub none-fails : (ok : ℕ → Bool) (i n : ℕ) → ((k : ℕ) → k < i + n → ok k ≡ true) → first_fail ok i n ≡ 0

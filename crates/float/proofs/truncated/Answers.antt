@@ -6,16 +6,16 @@ use lib.Ieee.{binary32, in_float, to_signed}
 use Rattle.float.proofs.truncated.Goals as goal
 
 of : (c : goal.Start) → Small c.args.x
-of c = small c.args.x c.requires.0 c.requires.1
+of c = small c.args.x c.requires.fact_1 c.requires.fact_2
 
 wider : (z : ℤ) → SFits w32 z → SFits w64 z
 wider z h = record { sfits = omega (arith, h.sfits) }
 
 -- what the machine reads back of the callee's result
-back : (c : goal.After-truncating_f32_to_i64) → to_z w64 (of_z w64 c.truncating-f32-to-i64.result) ≡ to_signed 63 c.before.args.x
+back : (c : goal.After-truncating_f32_to_i64) → to_z w64 (of_z w64 c.truncating_f32_to_i64.result) ≡ to_signed 63 c.args.x
 back c =
-    ap (λ (z : ℤ). to_z w64 (of_z w64 z)) c.truncating-f32-to-i64.ensures
-    ∙ to_z-of_z w64 (to_signed 63 c.before.args.x) (wider (to_signed 63 c.before.args.x) (of c.before).fits)
+    ap (λ (z : ℤ). to_z w64 (of_z w64 z)) c.truncating_f32_to_i64.ensures
+    ∙ to_z-of_z w64 (to_signed 63 c.args.x) (wider (to_signed 63 c.args.x) (small c.args.x c.requires.fact_1 c.requires.fact_2).fits)
 
 pub truncating_f32_to_i64-requires-clause-lower_bound : goal.truncating_f32_to_i64-requires-clause-lower_bound
 truncating_f32_to_i64-requires-clause-lower_bound c = (of c).low
@@ -27,4 +27,4 @@ pub returns-clause-fact_1 : goal.returns-clause-fact_1
 returns-clause-fact_1 c = back c
 
 pub returns-clause-fact_2 : goal.returns-clause-fact_2
-returns-clause-fact_2 c = subst (λ (z : ℤ). T (in_float binary32 z)) (sym (back c)) (of c).whole
+returns-clause-fact_2 c = subst (λ (z : ℤ). T (in_float binary32 z)) (sym (back c)) (small c.args.x c.requires.fact_1 c.requires.fact_2).whole

@@ -12,8 +12,8 @@ unfolding whole_part
 part x a b p q = cc
 
 -- what the machine reads back of the integer
-read : (c : goal.After-truncated) → to_z w64 (of_z w64 c.truncated.result) ≡ c.truncated.result
-read c = to_z-of_z w64 c.truncated.result (record { sfits = c.truncated.type-inv })
+read : (c : goal.After-row_known-1) → to_z w64 (of_z w64 c.truncated.result) ≡ c.truncated.result
+read c = to_z-of_z w64 c.truncated.result (record { sfits = c.truncated.type_inv })
 
 pub truncated-requires-clause-fact_1 : goal.truncated-requires-clause-fact_1
 unfolding of_bits neg
