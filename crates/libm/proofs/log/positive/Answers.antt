@@ -18,31 +18,31 @@ use Rattle.libm.specs.Log.{ln_of_parts}
 use Rattle.libm.proofs.log.positive.Goals as goal
 
 -- the parts of b as a float, and its exponent as the machine reads it
-whole_parts : (c : goal.After-mantissa_and_exponent-p) → SplitOf (of_int binary32 (pos c.before.before.before.args.b))
-    c.mantissa-and-exponent.result.mantissa c.mantissa-and-exponent.result.exponent
+whole_parts : (c : goal.After-struct_told-1) → SplitOf (of_int binary32 (pos c.args.b))
+    c.mantissa_and_exponent-p.result.mantissa c.mantissa_and_exponent-p.result.exponent
 whole_parts c =
-    let b = c.before.before.before.args.b in
-    let r = c.mantissa-and-exponent.result in
+    let b = c.args.b in
+    let r = c.mantissa_and_exponent-p.result in
     subst (λ (x : Float). SplitOf x r.mantissa r.exponent) (of_bits-to_bits binary32 (of_int binary32 (pos b)) (of_int-fits binary32 (pos b)))
-    c.mantissa-and-exponent.ensures
+    c.mantissa_and_exponent-p.ensures
 
-read : (c : goal.After-mantissa_and_exponent-p) → to_z w64 (of_z w64 c.mantissa-and-exponent.result.exponent) ≡ c.mantissa-and-exponent.result.exponent
+read : (c : goal.After-struct_told-1) → to_z w64 (of_z w64 c.mantissa_and_exponent-p.result.exponent) ≡ c.mantissa_and_exponent-p.result.exponent
 read c =
-    to_z-of_z w64 c.mantissa-and-exponent.result.exponent
-    (binary-fits c.mantissa-and-exponent.result.exponent c.mantissa-and-exponent.ensures.in-range)
+    to_z-of_z w64 c.mantissa_and_exponent-p.result.exponent
+    (binary-fits c.mantissa_and_exponent-p.result.exponent c.mantissa_and_exponent-p.ensures.in-range)
 
-lowered : (c : goal.After-mantissa_and_exponent-p) → Binary (c.mantissa-and-exponent.result.exponent -ℤ pos 149)
+lowered : (c : goal.After-struct_told-1) → Binary (c.mantissa_and_exponent-p.result.exponent -ℤ pos 149)
 lowered c =
-    let s = c.before.before.before in
-    lowered-binary s.args.b s.requires.0 c.before.before.if1.true c.mantissa-and-exponent.result.mantissa
-    c.mantissa-and-exponent.result.exponent (whole_parts c)
+    let s = c in
+    lowered-binary s.args.b s.requires.fact_1 c.if-b-lt8388608.true c.mantissa_and_exponent-p.result.mantissa
+    c.mantissa_and_exponent-p.result.exponent (whole_parts c)
 
-read-lowered : (c : goal.After-mantissa_and_exponent-p) → to_z w64 (of_z w64 (to_z w64 (of_z w64 c.mantissa-and-exponent.result.exponent) -ℤ pos 149))
-    ≡ c.mantissa-and-exponent.result.exponent -ℤ pos 149
+read-lowered : (c : goal.After-struct_told-1) → to_z w64 (of_z w64 (to_z w64 (of_z w64 c.mantissa_and_exponent-p.result.exponent) -ℤ pos 149))
+    ≡ c.mantissa_and_exponent-p.result.exponent -ℤ pos 149
 read-lowered c =
     ap (λ (z : ℤ). to_z w64 (of_z w64 (z -ℤ pos 149))) (read c)
-    ∙ to_z-of_z w64 (c.mantissa-and-exponent.result.exponent -ℤ pos 149)
-    (binary-fits (c.mantissa-and-exponent.result.exponent -ℤ pos 149) (lowered c))
+    ∙ to_z-of_z w64 (c.mantissa_and_exponent-p.result.exponent -ℤ pos 149)
+    (binary-fits (c.mantissa_and_exponent-p.result.exponent -ℤ pos 149) (lowered c))
 
 pub int_to_float-b : goal.int_to_float-b
 unfolding in_float
@@ -52,7 +52,8 @@ pub float_to_bits-b : goal.float_to_bits-b
 float_to_bits-b c = whole-number c.args.b c.requires.fact_1 c.if-b-lt8388608.true
 
 pub mantissa_and_exponent-p-requires : goal.mantissa_and_exponent-p-requires
-mantissa_and_exponent-p-requires c = whole-pattern c.args.b c.requires.fact_1 c.if-b-lt8388608.true
+mantissa_and_exponent-p-requires c =
+    let w = whole-pattern c.args.b c.requires.fact_1 c.if-b-lt8388608.true in record { fact_1 = w.0; fact_2 = w.1 }
 
 pub overflow_sub-p : goal.overflow_sub-p
 overflow_sub-p c = 
@@ -64,12 +65,11 @@ joined-requires c = subst Binary (sym (read-lowered c)) (lowered c)
 
 pub returns-then-b-lt8388608 : goal.returns-then-b-lt8388608
 returns-then-b-lt8388608 c = 
-    let k = c in
-    let s = k in
+    let k = c.before in
     let r = k.mantissa_and_exponent-p.result in
     c.joined.ensures
     ∙ ap (λ (z : ℤ). ln_of_parts r.mantissa z) (read-lowered k)
-    ∙ ln-below s.args.b s.requires.fact_1 k.if-b-lt8388608.true r.mantissa r.exponent (whole_parts k)
+    ∙ ln-below k.args.b k.requires.fact_1 k.if-b-lt8388608.true r.mantissa r.exponent (whole_parts k)
 
 pub returns : goal.returns
 returns c = 
