@@ -6,7 +6,7 @@ use Rattle.aero.proofs.flat_plate_pitch.Goals as goal
 
 pub returns : goal.returns
 unfolding flat_plate_pitch plate_normal of_bits round
-returns c = 
+returns c =
     simp (
       c.abs.ensures,
       c.static_margin_chords-center_of_gravity.ensures,

@@ -5,7 +5,7 @@ use Rattle.aero.proofs.flow_of.Goals as goal
 
 pub returns : goal.returns
 unfolding flow_of flow_at
-returns c = 
+returns c =
     simp (
       c.pressure_area_n.ensures,
       c.cosf.ensures,

@@ -6,7 +6,7 @@ use Rattle.aero.proofs.moving.Goals as goal
 
 pub returns : goal.returns
 unfolding moving_of moving_at torque_at surface_free of_bits round
-returns c = 
+returns c =
     simp (
       c.with_surfaces.ensures,
       c.add-torque_nm.ensures,

@@ -6,7 +6,7 @@ use Rattle.aero.proofs.stall_wash_nm.Goals as goal
 
 pub returns : goal.returns
 unfolding stall_wash stall_share of_bits
-returns c = 
+returns c =
     simp (
       c.new.ensures,
       c.at_least_zero-2.ensures,

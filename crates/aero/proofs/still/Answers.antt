@@ -6,7 +6,7 @@ use Rattle.aero.proofs.still.Goals as goal
 
 pub returns : goal.returns
 unfolding still_of of_bits
-returns c = 
+returns c =
     simp (
       c.add-2.ensures,
       c.rate_moments.ensures,

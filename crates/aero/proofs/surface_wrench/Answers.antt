@@ -6,7 +6,7 @@ use Rattle.aero.proofs.surface_wrench.Goals as goal
 
 pub returns : goal.returns
 unfolding surface_wrench aileron_moment elevator_and_rudder of_bits
-returns c = 
+returns c =
     simp (
       c.add.ensures,
       c.new-2.ensures,

@@ -6,7 +6,7 @@ use Rattle.aero.proofs.wrench.Goals as goal
 
 pub returns-then-speed_mps : goal.returns-then-speed_mps
 unfolding aero_wrench of_bits
-returns-then-speed_mps c = 
+returns-then-speed_mps c =
     simp (
       c.moving.ensures,
       c.sideslip-beta_rad.ensures,

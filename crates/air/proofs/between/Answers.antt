@@ -12,6 +12,6 @@ plus_one n = omega arith
 
 pub returns : goal.returns
 unfolding between density_of of_bits round
-returns c = 
+returns c =
     let b = c in
     rw (b.requires.fact_2, b.requires.fact_3, plus_one b.args.row)

@@ -16,7 +16,7 @@ loop-i-init c = (search rules, search rules, from_start _ _)
 
 pub returns-then-not-inside : goal.returns-then-not-inside
 unfolding inside_from number_inside
-returns-then-not-inside c = 
+returns-then-not-inside c =
     let s = c in record {
       fact_1 = sym (s.loop-i.invariant.2 ∙ fail-here _ s.loop-i.i _ c.loop-i-test.true
           (sym c.inside.ensures ∙ not-true c.if-not-inside.true-raw));
@@ -25,7 +25,7 @@ returns-then-not-inside c =
 
 pub loop-i-preserved : goal.loop-i-preserved
 unfolding inside_from number_inside
-loop-i-preserved c = 
+loop-i-preserved c =
     let s = c in (
       search rules,
       search rules,

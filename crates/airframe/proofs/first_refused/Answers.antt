@@ -32,7 +32,7 @@ segment_outside-lift-requires c =
 
 pub returns : goal.returns
 unfolding first_refused of_bits round
-returns c = 
+returns c =
     let p = c in
     let s = c in
     simp (

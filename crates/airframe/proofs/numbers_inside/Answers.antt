@@ -16,7 +16,7 @@ loop-i-init c = (search rules, search rules, refl)
 
 pub loop-i-preserved : goal.loop-i-preserved
 unfolding inside_from number_inside
-loop-i-preserved c = 
+loop-i-preserved c =
     let s = c in (
       search rules,
       search rules,

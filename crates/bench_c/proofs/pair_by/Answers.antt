@@ -9,7 +9,7 @@ use Rattle.bench_c.proofs.pair_by.Goals as goal
 
 pub returns-then-is_done : goal.returns-then-is_done
 unfolding run_result_by reflected_by
-returns-then-is_done c = 
+returns-then-is_done c =
     let k = c in
     let d = sym c.is_done.ensures ∙ c.if-is_done.true in
     let w = sym k.is_whole.ensures ∙ k.if-is_whole.true in
@@ -18,7 +18,7 @@ returns-then-is_done c =
 
 pub returns-then-is_whole : goal.returns-then-is_whole
 unfolding run_result_by reflected_by
-returns-then-is_whole c = 
+returns-then-is_whole c =
     let k = c in
     let d = sym c.is_done.ensures ∙ c.if-is_done.false in
     let w = sym k.is_whole.ensures ∙ k.if-is_whole.true in
@@ -32,7 +32,7 @@ returns-then-is_whole c =
 
 pub returns : goal.returns
 unfolding run_result_by reflected_by
-returns c = 
+returns c =
     let w = sym c.is_whole.ensures ∙ c.if-is_whole.false in
     let p = c.ended_pair-2.ensures in
     record {

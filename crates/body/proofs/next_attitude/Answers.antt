@@ -5,7 +5,7 @@ use Rattle.body.proofs.next_attitude.Goals as goal
 
 pub returns : goal.returns
 unfolding next_attitude
-returns c = 
+returns c =
     simp (
       c.renormalize_fast.ensures,
       c.times.ensures,

@@ -15,7 +15,7 @@ loop-i-init c = (search rules, refl)
 
 pub loop-i-preserved : goal.loop-i-preserved
 unfolding slot_inside
-loop-i-preserved c = 
+loop-i-preserved c =
     let s = c in (
       search rules,
       pass-more _ s.loop-i.i s.loop-i.ok _ s.loop-i.invariant.1

@@ -21,7 +21,7 @@ loop-i-init c = (search rules, refl)
 
 pub returns-then-not-inside : goal.returns-then-not-inside
 unfolding slots_outside slot_inside
-returns-then-not-inside c = 
+returns-then-not-inside c =
     let s = c in record {
       fact_1 = sym (s.loop-i.invariant.1 ∙ fail-here _ s.loop-i.i 8 c.loop-i-test.true
           (sym c.inside.ensures ∙ not-true c.if-not-inside.true-raw));
@@ -30,7 +30,7 @@ returns-then-not-inside c =
 
 pub loop-i-preserved : goal.loop-i-preserved
 unfolding slot_inside
-loop-i-preserved c = 
+loop-i-preserved c =
     let s = c in (
       search rules,
       s.loop-i.invariant.1 ∙ fail-next _ s.loop-i.i 8 c.loop-i-test.true

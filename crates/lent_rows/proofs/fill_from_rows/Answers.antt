@@ -9,7 +9,7 @@ use Rattle.lent_rows.proofs.fill_from_rows.Goals as goal
 
 pub returns : goal.returns
 unfolding mix_of
-returns c = 
+returns c =
     let s = c in
     let rows = s.args.rows in
     let long : length rows.rows ≡ 16 = search rules in

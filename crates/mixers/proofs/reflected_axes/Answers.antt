@@ -15,7 +15,7 @@ pub loop-i-init : goal.loop-i-init
 loop-i-init c = fill_start _ _ _ (search rules)
 
 pub loop-i-preserved : goal.loop-i-preserved
-loop-i-preserved c = 
+loop-i-preserved c =
     let s = c in
     let i = s.loop-i.i in
     fill_more (vec nan nan nan) _ _ s.loop-i.out i c.reflected_axis.result
@@ -23,7 +23,7 @@ loop-i-preserved c =
 
 pub returns : goal.returns
 unfolding reflect_axes
-returns c = 
+returns c =
     let s = c in
     fill_end (vec nan nan nan) _ _ s.loop-i.out s.loop-i.i c.loop-i-test.false s.loop-i.invariant
     ∙ map-slots (vec nan nan nan) reflect_axis s.args.axes (search rules)

@@ -13,6 +13,6 @@ returns-then-thrust_exponent c = let t : eq c.args.thrust_exponent two ≡ true 
 
 pub returns : goal.returns
 unfolding thrust_fraction of_bits
-returns c = 
+returns c =
     let t : eq c.args.thrust_exponent two ≡ false = c.if-thrust_exponent.false in
     simp (t, c.powf_with.ensures)

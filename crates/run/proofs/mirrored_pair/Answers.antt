@@ -17,7 +17,7 @@ use Rattle.run.proofs.mirrored_pair.Goals as goal
 
 pub returns : goal.returns
 unfolding track_result run_result_of
-returns c = 
+returns c =
     let k = c in
     let a = k.args in
     let s = a.trace.now in

@@ -14,7 +14,7 @@ loop-i-init c = (search rules, c.zeros-sum.ensures)
 
 pub loop-i-preserved : goal.loop-i-preserved
 unfolding square_at
-loop-i-preserved c = 
+loop-i-preserved c =
     let s = c in (
       search rules,
       vec-sum-more _ s.loop-i.i s.loop-i.sum c.component_mul.result c.add-sum.result s.loop-i.invariant.1
@@ -23,7 +23,7 @@ loop-i-preserved c =
 
 pub returns : goal.returns
 unfolding squares_of
-returns c = 
+returns c =
     let s = c in
     let e : s.loop-i.i ≡ 8 = le_antisymm s.loop-i.invariant.0 c.loop-i-test.false in
     rw (s.loop-i.invariant.1, e)

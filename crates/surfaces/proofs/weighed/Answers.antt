@@ -15,7 +15,7 @@ pub loop-i-init : goal.loop-i-init
 loop-i-init c = fill_start _ _ _ (search rules)
 
 pub loop-i-preserved : goal.loop-i-preserved
-loop-i-preserved c = 
+loop-i-preserved c =
     let s = c in
     let n = s.before in
     let i = s.loop-i.i in
@@ -25,7 +25,7 @@ loop-i-preserved c =
 
 pub returns : goal.returns
 unfolding weighed weight_at inverse_of
-returns c = 
+returns c =
     let s = c in
     let n = s.before in
     let fs = n.args.factors in

@@ -5,7 +5,7 @@ use Rattle.airframe.proofs.Airframe.lowest_place.Goals as goal
 
 pub returns : goal.returns
 unfolding lowest_place
-returns c = 
+returns c =
     simp (
       c.first_refused.ensures,
       c.lift_torques_outside-lift_torque.ensures,

@@ -6,7 +6,7 @@ use Rattle.airframe.proofs.Airframe.zero.Goals as goal
 
 pub returns : goal.returns
 unfolding zero_airframe of_bits
-returns c = 
+returns c =
     let z = c in
     let r = z.before in
     let m = r.before.before in

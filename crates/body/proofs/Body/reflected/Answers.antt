@@ -5,7 +5,7 @@ use Rattle.body.proofs.Body.reflected.Goals as goal
 
 pub returns : goal.returns
 unfolding reflect_body
-returns c = 
+returns c =
     simp (
       c.reflected_axis.ensures,
       c.reflected-3.ensures,

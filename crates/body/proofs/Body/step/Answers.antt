@@ -5,7 +5,7 @@ use Rattle.body.proofs.Body.step.Goals as goal
 
 pub returns : goal.returns
 unfolding step_of next_velocity next_position
-returns c = 
+returns c =
     simp (
       c.next_attitude.ensures,
       c.next_rates-angular_velocity_radps.ensures,

@@ -6,7 +6,7 @@ use Rattle.flight.proofs.Flight.is_inside.Goals as goal
 
 pub returns : goal.returns
 unfolding of_bits round neg
-returns c = 
+returns c =
     let s = c in
     let b = s.before.before.before.before in
     simp (

@@ -6,7 +6,7 @@ use Rattle.flight.proofs.Flight.outside.Goals as goal
 
 pub returns : goal.returns
 unfolding outside_of of_bits round neg
-returns c = 
+returns c =
     let p = c in
     let b = p.before.before.before.before.before.before.before.before in
     simp (

@@ -5,7 +5,7 @@ use Rattle.libm.proofs.atan.off_origin.Goals as goal
 
 pub returns : goal.returns
 unfolding off_origin
-returns c = 
+returns c =
     simp (
       c.sided.ensures,
       c.beyond.ensures,

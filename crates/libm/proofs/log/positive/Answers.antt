@@ -72,7 +72,7 @@ returns-then-b-lt8388608 c =
     ∙ ln-below b c.requires.fact_1 c.if-b-lt8388608.true r.mantissa r.exponent (whole_parts b r.mantissa r.exponent w)
 
 pub returns : goal.returns
-returns c = 
+returns c =
     let k = c in
     let s = c in
     let r = k.mantissa_and_exponent-p-2.result in

@@ -48,7 +48,7 @@ pub overflow_add-result-2 : goal.overflow_add-result-2
 overflow_add-result-2 c = omega arith
 
 pub returns : goal.returns
-returns c = 
+returns c =
     let b = c.args.b in
     let l = c.loop-m in
     record {

@@ -36,7 +36,7 @@ pub loop-hi-preserved : goal.loop-hi-preserved
 loop-hi-preserved c = omega arith
 
 pub returns : goal.returns
-returns c = 
+returns c =
     let lo = c.loop-hi.lo in
     let hi = c.loop-hi.hi in
     let e : hi ≡ lo + 1 = omega arith in

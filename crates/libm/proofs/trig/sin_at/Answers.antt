@@ -18,7 +18,7 @@ returns-then-q-3 c = simp (c.cos_near-then-q-3.ensures, c.if-q-3.true, c.if-q-2.
 
 pub returns-then-q-4 : goal.returns-then-q-4
 unfolding sin_by by_quarters neg of_bits round
-returns-then-q-4 c = 
+returns-then-q-4 c =
     simp (
       c.sin_near-then-q-4.ensures,
       c.if-q-4.true,
@@ -29,7 +29,7 @@ returns-then-q-4 c =
 
 pub returns-then-q-5 : goal.returns-then-q-5
 unfolding sin_by by_quarters neg of_bits round
-returns-then-q-5 c = 
+returns-then-q-5 c =
     simp (
       c.sin_near-then-q-5.ensures,
       c.if-q-5.true,
@@ -41,7 +41,7 @@ returns-then-q-5 c =
 
 pub returns : goal.returns
 unfolding sin_by by_quarters neg of_bits round
-returns c = 
+returns c =
     simp (
       c.cos_near-2.ensures,
       c.if-q-5.false,

@@ -7,7 +7,7 @@ use Rattle.libm.proofs.trig.sinf.Goals as goal
 
 pub returns-then-x-2 : goal.returns-then-x-2
 unfolding of_bits neg round
-returns-then-x-2 c = 
+returns-then-x-2 c =
     let q = c in
     simp (c.sin_at.ensures, c.rest_of.ensures, q.quarters-q.ensures, sin-held _ q.if-x.true q.if-x-2.true)
 

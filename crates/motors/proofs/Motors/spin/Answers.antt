@@ -14,7 +14,7 @@ loop-i-init c = fill_start _ _ _ (search rules)
 
 pub loop-i-preserved : goal.loop-i-preserved
 unfolding spin_at
-loop-i-preserved c = 
+loop-i-preserved c =
     let s = c in
     let a = s.args in
     let i = s.loop-i.i in

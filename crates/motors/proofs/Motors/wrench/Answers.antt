@@ -17,7 +17,7 @@ loop-i-init c = (search rules, refl, c.zeros-torque_nm.ensures)
 
 pub loop-i-preserved : goal.loop-i-preserved
 unfolding slot_thrust slot_torque
-loop-i-preserved c = 
+loop-i-preserved c =
     let s = c in
     let a = s.args in
     let i = s.loop-i.i in
@@ -31,7 +31,7 @@ loop-i-preserved c =
 
 pub returns : goal.returns
 unfolding wrench_without_falloff wrench_by
-returns c = 
+returns c =
     let s = c in
     let e : s.loop-i.i ≡ 8 = le_antisymm s.loop-i.invariant.0 c.loop-i-test.false in
     rw (s.loop-i.invariant.1, s.loop-i.invariant.2, e)

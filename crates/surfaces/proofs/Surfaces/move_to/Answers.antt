@@ -16,7 +16,7 @@ loop-i-init c = fill_start _ _ _ (search rules)
 
 pub loop-i-preserved : goal.loop-i-preserved
 unfolding move_at of_bits neg
-loop-i-preserved c = 
+loop-i-preserved c =
     let s = c in
     let a = s.args in
     let i = s.loop-i.i in

@@ -6,7 +6,7 @@ use Rattle.tailsitter_model.proofs.PropWash.wash.Goals as goal
 
 pub returns : goal.returns
 unfolding wash_of wash_by_pressure flow_mps of_bits
-returns c = 
+returns c =
     simp (
       c.at_least_zero-pushing_pa.ensures,
       c.sqrtf-flow_mps.ensures,

@@ -7,7 +7,7 @@ use Rattle.vector.proofs.Quaternion.from_scaled_axis.Goals as goal
 
 pub returns-then-squared : goal.returns-then-squared
 unfolding from_scaled_axis from_half_axis norm_of of_bits round
-returns-then-squared c = 
+returns-then-squared c =
     simp (
       c.identity.ensures,
       simp (c.norm_squared-squared.ensures, c.scale-half.ensures) at c.if-squared.true,
@@ -17,7 +17,7 @@ returns-then-squared c =
 
 pub returns : goal.returns
 unfolding from_scaled_axis from_half_axis norm_of of_bits round
-returns c = 
+returns c =
     simp (
       c.about.ensures,
       c.sqrtf.ensures,

@@ -6,7 +6,7 @@ use Rattle.vector.proofs.Quaternion.rotated.Goals as goal
 
 pub returns : goal.returns
 unfolding rotated twist of_bits
-returns c = 
+returns c =
     simp (
       c.add-2.ensures,
       c.add.ensures,

@@ -5,7 +5,7 @@ use Rattle.vector.proofs.Vec3.is_inside.Goals as goal
 
 pub returns : goal.returns
 unfolding vec_inside
-returns c = 
+returns c =
     simp (
       c.both-2.ensures,
       c.both.ensures,
