@@ -88,6 +88,18 @@ class Fn:
             o, n = old.strip().replace(" ", ""), new.strip().replace(" ", "")
             if o.startswith("."): text = re.sub(re.escape(o) + r"(?![\w'-])", n, text)
         return text
+    def clause(self, fields, at, names):
+        """fields[at..] are digits of a tuple, nested to the right or flat: one name in their place."""
+        i, k, n = 0, at, len(names)
+        while k < len(fields) and fields[k].isdigit():
+            d = int(fields[k]); k += 1
+            if d >= 2:
+                i = min(d, n - 1); break
+            if d == 0: break
+            i += 1
+            if i == n - 1: break
+        if k == at or i >= n: return fields
+        return fields[:at] + [names[i]] + fields[k:]
     def path(self, place, fields):
         """fields: list of names after root with 'before's removed."""
         if not fields: return fields
@@ -95,8 +107,7 @@ class Fn:
         if f in ("args", "ranges", "requires", "utf8"):
             if f == "requires" and self.e.get("pre") and len(fields) > 1 and fields[1].isdigit():
                 pre = self.e["pre"]; names = pre.get("fields") if isinstance(pre, dict) else pre
-                try: fields[1] = names[int(fields[1])]
-                except Exception: pass
+                if names and len(names) > 1: fields = self.clause(fields, 1, names)
             return fields
         ch = self.chain(place)
         for p in ch:
@@ -109,8 +120,7 @@ class Fn:
                     if fields[1] == "type-inv": fields[1] = "type_inv"
                     cl = self.e["clauses"][self.index[p]] if self.index[p] < len(self.e["clauses"]) else None
                     if fields[1] == "ensures" and len(fields) > 2 and fields[2].isdigit() and cl and cl.get("fields"):
-                        try: fields[2] = cl["fields"][int(fields[2])]
-                        except IndexError: pass
+                        if len(cl["fields"]) > 1: fields = self.clause(fields, 2, cl["fields"])
                 return fields
         return fields
     def body(self, place, text):
@@ -123,6 +133,8 @@ class Fn:
             root, rest = m.group(1), m.group(2)
             if root not in roots: return m.group(0)
             fs = [x for x in rest.split(".") if x and x != "before"]
+            if not fs: return m.group(0)
+            fs = [{"well-formed": "well_formed", "type-inv": "type_inv"}.get(x, x) for x in fs]
             fs = self.path(place, fs)
             return ".".join([root] + fs)
         text = re.sub(r"(?<![\w.'-])([A-Za-z]\w*)((?:\.[\w'₀-₉-]+)+)", put, text)
@@ -235,6 +247,11 @@ def convert(path, key, entry, crate):
     # places' types in helpers
     pn = {p[0]: q for p, q in zip(entry["places"], entry["places_by_name"])}
     def helper(t):
+        m = re.search(r"\(c : tie\.([\w'-]+)[^)]*\)", t)
+        if m:
+            place = next((k for k in pn if k.replace("_", "-") == m.group(1).replace("_", "-")), None)
+            if place: t = fn.body(place, t)
+        t = re.sub(r"(tie\.[\w'-]+) invariant-loop[\w'-]*(?: decreases-loop[\w'-]*)?", r"\1", t)
         return re.sub(r"\btie\.([\w'-]+)", lambda m: "goal." + next((v for k, v in pn.items() if k.replace("_","-") == m.group(1).replace("_","-")), m.group(1)), t)
     mod = key[len("Rattle-"):].replace("-proofs", ".proofs", 1)[:-len(".Lts")]
     uses = [h for h in head if h.startswith("use ") and not re.search(r"\.Statement\.\{statement\}|\.Tie as tie", h)]

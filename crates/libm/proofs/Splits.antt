@@ -138,10 +138,12 @@ shift-at q z w k n p e f h l = shift-only w p k (low (2 ^ k) (2 ^ z) e f (pow_po
 -- ---- the number q · 2 ^ (x - 149)
 odd_is : (q x : ℕ) → 0 < q → odd 24 false q x 149 ≡ fin false (q / 2 ^ count_trailing_zeros 24 q) (minus (x + count_trailing_zeros 24 q) 149)
 unfolding odd
+odd_is zero x p = elim p [ ]
 odd_is (suc q) x p = refl
 
 zeros-out : (q : ℕ) → 0 < q → q / 2 ^ count_trailing_zeros 24 q * 2 ^ count_trailing_zeros 24 q ≡ q
 unfolding odd
+zeros-out zero p = elim p [ ]
 zeros-out (suc q) p =
     let z = count_trailing_zeros 24 (suc q) in
     let w = suc q / 2 ^ z in

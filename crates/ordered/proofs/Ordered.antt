@@ -89,7 +89,7 @@ each-pass ok zero h = refl
 each-pass ok (suc n) h = rw (h n (omega arith)) (each-pass ok n (λ k l. h k (omega (arith, l))))
 
 pub pass-some : (ok : ℕ → Bool) (n : ℕ) → all_pass ok n ≡ false → first_fail ok 0 n ≡ 0 → ⊥
-pass-some ok n e z = false≢true (sym e ∙ each-pass ok n (all_pass ok n z))
+pass-some ok n e z = false≢true (sym e ∙ each-pass ok n (all-pass ok n z))
 
 -- one test more, in a loop that keeps whether all passed
 pub pass-more : (ok : ℕ → Bool) (n : ℕ) (t r : Bool) → t ≡ all_pass ok n → r ≡ cond (ok n) t false → r ≡ all_pass ok (n + 1)

@@ -58,44 +58,44 @@ abbrev guess-of : goal.After-truncated-guess → ℕ
 guess-of g = nat_abs (to_z w64 (of_z w64 g.truncated.result))
 
 abbrev row_of : goal.After-truncated-guess → ℕ
-row_of g = row_down_from last_row g.before.args.height-m
+row_of g = row_down_from last_row g.before.args.height_m
 
 went_down : (c : goal.Then-height_m-row_m) → guess-of c.before.before ≡ suc (row_of c.before.before)
 unfolding of_bits round
 went_down c =
-    let g = c.before.before in
-    down g.before.args.height-m g.before.requires.0 g.truncated.result g.truncated.ensures.0 c.before.row-height.result
-    c.before.row-height.ensures c.if1.true
+    let g = c in
+    down g.args.height_m g.requires.fact_1 g.truncated-guess.result g.truncated-guess.ensures.fact_1 c.row_height-row_m.result
+    c.row_height-row_m.ensures c.if-height_m-row_m.true
 
 -- ---- it is not, so the guess is its row
 stayed : (c : goal.Else-height_m-row_m) → guess-of c.before.before ≡ row_of c.before.before
 unfolding of_bits round
 stayed c =
-    let g = c.before.before in
-    stays g.before.args.height-m g.before.requires.0 g.truncated.result g.truncated.ensures.0 c.before.row-height.result
-    c.before.row-height.ensures c.if1.false
+    let g = c in
+    stays g.args.height_m g.requires.fact_1 g.truncated-guess.result g.truncated-guess.ensures.fact_1 c.row_height-row_m.result
+    c.row_height-row_m.ensures c.if-height_m-row_m.false
 
 pub truncated-guess-requires : goal.truncated-guess-requires
 unfolding of_bits round
-truncated-guess-requires c = quotient-small c.args.height-m c.requires.fact_1
+truncated-guess-requires c = quotient-small c.args.height_m c.requires.fact_1
 
 pub overflow_cast-guess : goal.overflow_cast-guess
 unfolding of_bits round
-overflow_cast-guess c = casts c.args.height-m c.requires.fact_1 c.truncated-guess.result c.truncated-guess.ensures.fact_1
+overflow_cast-guess c = casts c.args.height_m c.requires.fact_1 c.truncated-guess.result c.truncated-guess.ensures.fact_1
 
 pub row_height-row_m-requires : goal.row_height-row_m-requires
 unfolding of_bits round
-row_height-row_m-requires c = is_row c.args.height-m c.requires.fact_1 c.truncated-guess.result c.truncated-guess.ensures.fact_1
+row_height-row_m-requires c = is_row c.args.height_m c.requires.fact_1 c.truncated-guess.result c.truncated-guess.ensures.fact_1
 
 pub overflow_sub-guess : goal.overflow_sub-guess
-overflow_sub-guess c = some (guess-of c) (row_of c) (went_down c)
+overflow_sub-guess c = some (guess-of c.before.before) (row_of c.before.before) (went_down c)
 
 pub between-requires : goal.between-requires
 unfolding of_bits round
 between-requires c = 
     let g = c in
     let less = one_less (guess-of g) (row_of g) (went_down c) in
-    let last = row_inside g.args.height-m g.requires.fact_1 in record {
+    let last = row_inside g.args.height_m g.requires.fact_1 in record {
       fact_1 = subst (λ (k : ℕ). k < last_row) (sym less) last;
       fact_2 = ap (λ (x : Float). x ⊖ rounded 100 1) (c.row_height-row_m.ensures ∙ ap height_of (went_down c)) ∙ row-lower (row_of g) last ∙ ap height_of (sym less);
       fact_3 = g.requires.fact_2;
@@ -104,15 +104,15 @@ between-requires c =
 pub returns-then-height_m-row_m : goal.returns-then-height_m-row_m
 returns-then-height_m-row_m c = 
     let g = c in
-    c.between.ensures ∙ ap (λ (k : ℕ). between k g.args.height-m) (one_less (guess-of g) (row_of g) (went_down c))
+    c.between.ensures ∙ ap (λ (k : ℕ). between k g.args.height_m) (one_less (guess-of g) (row_of g) (went_down c.before))
 
 pub between-requires-2 : goal.between-requires-2
 between-requires-2 c = 
     let g = c in record {
-      fact_1 = subst (λ (k : ℕ). k < last_row) (sym (stayed c)) (row_inside g.args.height-m g.requires.fact_1);
+      fact_1 = subst (λ (k : ℕ). k < last_row) (sym (stayed c)) (row_inside g.args.height_m g.requires.fact_1);
       fact_2 = c.row_height-row_m.ensures;
       fact_3 = g.requires.fact_2;
     }
 
 pub returns : goal.returns
-returns c = c.between-2.ensures ∙ ap (λ (k : ℕ). between k c.args.height-m) (stayed c)
+returns c = c.between-2.ensures ∙ ap (λ (k : ℕ). between k c.args.height_m) (stayed c.before)

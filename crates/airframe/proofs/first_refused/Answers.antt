@@ -26,7 +26,7 @@ pub returns : goal.returns
 unfolding first_refused of_bits round
 returns c = 
     let p = c in
-    let s = p in
+    let s = p.before.before.before.before.before in
     simp (
       c.or_else-3.ensures,
       c.or_else-2.ensures,

@@ -7,13 +7,13 @@ pub returns : goal.returns
 unfolding airframe_by
 returns c = 
     let s = c in
-    let filled = s in
+    let filled = s.before.before.before in
     simp (
       c.from_numbers.ensures,
       s.surfaces-surfaces.ensures,
-      filled.fill_from_rows-mix.ensures.motors_value.0,
-      filled.fill_from_rows-mix.ensures.motors_value.1.0,
-      filled.fill_from_rows-mix.ensures.motors_value.1.1,
+      filled.fill_from_rows-mix.ensures.motors_value,
+      filled.fill_from_rows-mix.ensures.lift_value,
+      filled.fill_from_rows-mix.ensures.result_value,
       filled.lift_layout_of.ensures,
       filled.motor_layout_of.ensures,
     )

@@ -19,15 +19,15 @@ announced-said-requires c = small-header _ _ _ c.header_of-h.ensures
 pub returns-then-n-to : goal.returns-then-n-to
 returns-then-n-to c = 
     let said = c in
-    let a = said in
-    let h = a in
+    let a = said.before.before in
+    let h = a.before in
     by-header _ h.header_of-h.result _ h.if-n-lt-HEADER_BYTES.false h.header_of-h.ensures
     (by_said _ _ _ _ (sym said.said-in-Bytes-1.given.1 ∙ a.announced-said.ensures) (c.refused-then-n-to.ensures ∙ length-refused _ _ _ c.if-n-to.true))
 
 pub read_body-requires : goal.read_body-requires
 read_body-requires c = 
     let said = c in
-    let a = said in
+    let a = said.before.before in
     let n = announced-bytes _ _ (sym a.announced-said.ensures ∙ said.said-in-Bytes-1.given.1) in
     record {
       fact_1 = n.1;
@@ -38,8 +38,8 @@ read_body-requires c =
 pub returns-in-Refused : goal.returns-in-Refused
 returns-in-Refused c = 
     let said = c in
-    let a = said in
-    let h = a in
+    let a = said.before.before in
+    let h = a.before in
     by-header _ h.header_of-h.result _ h.if-n-lt-HEADER_BYTES.false h.header_of-h.ensures
     (by_said _ _ _ _ (sym said.said-1.given.1 ∙ a.announced-said.ensures) (c.refused-in-Refused.ensures ∙ header_refused _ _ _))
 
@@ -47,7 +47,7 @@ returns-in-Refused c =
 pub returns-else-n-to : goal.returns-else-n-to
 returns-else-n-to c = 
     let said = c in
-    let a = said in
-    let h = a in
+    let a = said.before.before in
+    let h = a.before in
     by-header _ h.header_of-h.result _ h.if-n-lt-HEADER_BYTES.false h.header_of-h.ensures
     (by_said _ _ _ _ (sym said.said-in-Bytes-1.given.1 ∙ a.announced-said.ensures) (c.read_body.ensures ∙ length-read _ _ _ c.if-n-to.false))

@@ -38,7 +38,7 @@ pub returns : goal.returns
 unfolding read_rows
 returns c = 
     let r = c in
-    let b = r in
+    let b = r.before.before in
     let a = b.args in
     let n = c in
     let rows = r.read_rows-rows.ensures ∙ ap (λ z. rows_from a.s.now z a.h.rows) b.rows_at-start.ensures.fact_1 in

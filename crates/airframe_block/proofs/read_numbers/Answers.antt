@@ -38,8 +38,8 @@ read_segment-numbers-requires c =
 pub read_segment-washed-requires : goal.read_segment-washed-requires
 read_segment-washed-requires c = 
     let n = c in
-    let w = n in
-    let b = w in
+    let w = n.before.before in
+    let b = w.before in
     let h = b.args.h in record {
       fact_1 = wash-holds w.wash-wash.result _ w.wash-wash.ensures;
       fact_2 = omega (arith, rows-at-is h, ap segment_bytes b.base-base.ensures, ap segment_bytes w.wash-wash.ensures, n.segment_bytes-wash_at.ensures.fact_1);
@@ -48,10 +48,10 @@ read_segment-washed-requires c =
 pub read_segment-requires : goal.read_segment-requires
 read_segment-requires c = 
     let m = c in
-    let n = m in
-    let l = n in
-    let w = l in
-    let b = w in
+    let n = m.before in
+    let l = n.before in
+    let w = l.before in
+    let b = w.before in
     let h = b.args.h in record {
       fact_1 = lift-holds l.lift-lift.result _ l.lift-lift.ensures;
       fact_2 = omega (
@@ -69,7 +69,7 @@ pub returns : goal.returns
 unfolding numbers_from put_segments segments_of of_bits
 returns c = 
     let m = c in
-    let l = m in
+    let l = m.before.before in
     simp (
       c.read_segment.ensures,
       c.read_segment-washed.ensures,

@@ -7,11 +7,11 @@ pub returns : goal.returns
 unfolding airframe_in airframe_with
 returns c = 
     let r = c in
-    let v = r in
-    let m = v in
-    let l = m in
-    let w = l in
-    let k = w in
+    let v = r.before.before in
+    let m = v.before.before in
+    let l = m.before in
+    let w = l.before.before in
+    let k = w.before.before in
     simp (
       c.from_numbers.ensures,
       r.group_in-rotors.ensures,

@@ -52,7 +52,7 @@ pub returns-then-k-lt-LIFT_NUMBERS_AT : goal.returns-then-k-lt-LIFT_NUMBERS_AT
 unfolding airframe_number
 returns-then-k-lt-LIFT_NUMBERS_AT c = 
     let s = c in
-    let r = s in
+    let r = s.before.before in
     simp (
       c.vecs_number-then-k-lt-LIFT_NUMBERS_AT.ensures,
       lt-ltb _ _ c.if-k-lt-LIFT_NUMBERS_AT.true,
@@ -73,7 +73,7 @@ pub returns : goal.returns
 unfolding airframe_number
 returns c = 
     let s = c in
-    let r = s in
+    let r = s.before.before in
     simp (
       c.lift_number.ensures,
       le-ltb _ _ c.if-k-lt-LIFT_NUMBERS_AT.false,

@@ -10,12 +10,12 @@ pub returns : goal.returns
 unfolding numbers_in number_at list_of list_from
 returns c = 
     let r = c in
-    let p = r in
-    let w = p in
-    let t = w in
-    let s = t in
-    let f = s in
-    let k = f in
+    let p = r.before in
+    let w = p.before.before in
+    let t = w.before in
+    let s = t.before in
+    let f = s.before.before in
+    let k = f.before.before in
     let xs = k.args.xs.now in
     let e : c.first_refused.result ≡ tests xs (numbers_in xs) =
     simp (

@@ -24,8 +24,8 @@ pub returns-then-arrays_fit : goal.returns-then-arrays_fit
 unfolding tick
 returns-then-arrays_fit c = 
     let h = c in
-    let t = h in
-    let i = t in
+    let t = h.before.before.before in
+    let i = t.before.before.before.before.before in
     let e = sym i.arrays_fit.ensures ∙ i.if-arrays_fit.true in (
       simp (
         h.handed_back.ensures.0,

@@ -25,8 +25,8 @@ pub returns-then-arrays_fit : goal.returns-then-arrays_fit
 unfolding tick_prepared
 returns-then-arrays_fit c = 
     let h = c in
-    let t = h in
-    let i = t in
+    let t = h.before.before.before in
+    let i = t.before.before.before.before in
     let e = sym i.arrays_fit.ensures ∙ i.if-arrays_fit.true in
     let l = eq-eqb _ _ i.if-airframe-eq-AIRFRAME_NUMBERS.true in (
       simp (h.handed_back.ensures.0, t.ticked_prepared-done.ensures, t.tick_in-t.ensures, t.flight_in-f.ensures, e, l),

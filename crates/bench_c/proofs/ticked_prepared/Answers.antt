@@ -10,8 +10,8 @@ use Rattle.bench_c.proofs.ticked_prepared.Goals as goal
 pub tick_accepted-requires : goal.tick_accepted-requires
 tick_accepted-requires c = 
     let d = c in
-    let b = d in
-    let t = b in
+    let b = d.before.before in
+    let t = b.before.before in
     let a = d.airframe_in-a.ensures in record {
       fact_1 = ap refused_place a ∙ sym t.refused_place-place.ensures ∙ t.if-place-eq0.true;
       fact_2 = simp (b.lag_factors_from-lags.ensures, t.lag_constants_in.ensures, a);

@@ -7,6 +7,6 @@ pub returns : goal.returns
 unfolding put_vec put_float
 returns c = 
     let z = c in
-    let y = z in
-    let x = y in
+    let y = z.before.before.before.before in
+    let x = y.before.before.before.before in
     simp (z.write-3.ensures, y.write-2.ensures, x.write.ensures)

@@ -9,10 +9,10 @@ use Rattle.motors.proofs.thrust_fraction.Goals as goal
 
 pub returns-then-thrust_exponent : goal.returns-then-thrust_exponent
 unfolding thrust_fraction of_bits
-returns-then-thrust_exponent c = let t : eq c.args.thrust-exponent two ≡ true = c.if-thrust_exponent.true in simp t
+returns-then-thrust_exponent c = let t : eq c.args.thrust_exponent two ≡ true = c.if-thrust_exponent.true in simp t
 
 pub returns : goal.returns
 unfolding thrust_fraction of_bits
 returns c = 
-    let t : eq c.args.thrust-exponent two ≡ false = c.if-thrust_exponent.false in
+    let t : eq c.args.thrust_exponent two ≡ false = c.if-thrust_exponent.false in
     simp (t, c.powf_with.ensures)

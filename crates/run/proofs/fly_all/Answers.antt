@@ -45,8 +45,8 @@ cached_lag_factors-lags-requires c =
 pub tick_inside-done-requires : goal.tick_inside-done-requires
 tick_inside-done-requires c = 
     let s = c in
-    let begun = s in
-    let start = begun in
+    let begun = s.before.before.before in
+    let start = begun.before.before.before.before in
     let factors = c.cached_lag_factors-lags.ensures.fact_1 in
     record {
       fact_1 = start.requires.fact_1;
@@ -59,7 +59,7 @@ tick_inside-done-requires c =
 pub overflow_add-accepted : goal.overflow_add-accepted
 overflow_add-accepted c = 
     let t = c in
-    let s = t in
+    let s = t.before in
     record { fits = omega (arith, s.loop-i.invariant.1, t.loop-i-test.true, c.one_if_done-accepted.ensures.fact_2, s.loop-i.invariant.6.fits) }
 
 pub overflow_add-i : goal.overflow_add-i
@@ -76,7 +76,7 @@ loop-i-preserved c =
     let start : Progress = record { flight = a.f; accepted = 0 } in
     let on = track_on a.reflect a.a in
     let k = c in
-    let t = k in
+    let t = k.before.before.before.before.before in
     let n = c.one_if_done-accepted in (
       search rules,
       search rules,

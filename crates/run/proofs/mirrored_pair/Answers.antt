@@ -18,11 +18,11 @@ use Rattle.run.proofs.mirrored_pair.Goals as goal
 -- what owning the state tells: the running values of its motors and lift rotors are 32-bit floats
 held : (c : goal.Start) → Representable c.args.f
 held c = record {
-  motors = record { motor = λ k l. field-representable c.args.f.motors _ k c.well-formed.1.0.1.1.1.1.1.1.1.1.1.1.1.1.1.1.1.0.1.1 };
+  motors = record { motor = λ k l. field-representable c.args.f.motors _ k c.well_formed.1.0.1.1.1.1.1.1.1.1.1.1.1.1.1.1.1.0.1.1 };
   lift =
       record {
         motor = λ k l. field-representable c.args.f.lift_motors _ k
-            c.well-formed.1.0.1.1.1.1.1.1.1.1.1.1.1.1.1.1.1.1.1.1.0.1.1;
+            c.well_formed.1.0.1.1.1.1.1.1.1.1.1.1.1.1.1.1.1.1.1.1.0.1.1;
       };
 }
 
@@ -43,5 +43,5 @@ returns c =
       second = second ∙ sym (reflected-run (reflect_airframe a.a) (reflect_flight a.f) s bytes);
       ticks = reflected-ticks s bytes;
       ends = rw (first, second) (ran-mirror a.a a.f s ts);
-      demand3 = demand3 a.a a.f (held k);
+      demand3 = demand3 a.a a.f (held k.before);
     }

@@ -12,10 +12,10 @@ pub returns : goal.returns
 unfolding put_flight
 returns c = 
     let lift = c in
-    let scales = lift in
-    let servos = scales in
-    let motors = servos in
-    let body = motors in
+    let scales = lift.before.before.before.before in
+    let servos = scales.before.before.before.before in
+    let motors = servos.before.before.before.before in
+    let body = motors.before.before.before.before in
     let a = body.args in
     let slots : ℕ → List Float → List ℕ → List ℕ = λ at xs s. put_floats s (a.at + at) xs 8 in
     lift.write_floats-4.ensures

@@ -17,7 +17,7 @@ loop-i-init c = fill_start _ _ _ (search rules)
 pub loop-i-preserved : goal.loop-i-preserved
 loop-i-preserved c = 
     let s = c in
-    let n = s in
+    let n = s.before in
     let i = s.loop-i.i in
     fill_more (vec nan nan nan) _ _ s.loop-i.weights i c.component_mul.result
     (c.component_mul.ensures ∙ ap (λ (z : Vec3). component_mul z n.new-inverse.result) (s.loop-i.invariant.left i (le_refl i)))
@@ -27,7 +27,7 @@ pub returns : goal.returns
 unfolding weighed weight_at inverse_of
 returns c = 
     let s = c in
-    let n = s in
+    let n = s.before in
     let fs = n.args.factors in
     let e : n.new-inverse.result ≡ inverse_of (squares_of fs) =
     simp (

@@ -10,7 +10,7 @@ pub returns : goal.returns
 unfolding loads_of loads_under aero_of pull_of air_of
 returns c = 
     let s = c in
-    let p = s in
+    let p = s.before.before.before in
     simp (
       c.loaded_by.ensures,
       c.with_lift-total.ensures,

@@ -18,8 +18,8 @@ pub returns : goal.returns
 unfolding next_with loads_in spun_of moved_of lag_factor lag_factors_from lag_constants_of of_bits round
 returns c = 
     let l = c in
-    let s = l in
-    let x = s in
+    let s = l.before.before.before.before.before.before in
+    let x = s.before.before.before.before in
     simp (
       c.stepped.ensures,
       l.loads-loaded.ensures,

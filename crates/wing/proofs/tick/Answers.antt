@@ -14,8 +14,8 @@ use Rattle.wing.proofs.tick.Goals as goal
 pub tick_accepted-requires : goal.tick_accepted-requires
 tick_accepted-requires c = 
     let b = c in
-    let d = b in
-    let t = d in
+    let d = b.before.before in
+    let t = d.before.before in
     record {
       fact_1 = sym t.refused_place-place.ensures ∙ t.if-place-eq0.true;
       fact_2 = b.begin-lags.ensures;

@@ -8,8 +8,8 @@ pub returns : goal.returns
 unfolding zero_airframe of_bits
 returns c = 
     let z = c in
-    let r = z in
-    let m = r in
+    let r = z.before in
+    let m = r.before.before in
     simp (
       c.from_numbers.ensures,
       z.zeros-weights.ensures,

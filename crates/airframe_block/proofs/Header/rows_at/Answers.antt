@@ -25,7 +25,7 @@ overflow_add-result c =
 pub overflow_add-result-2 : goal.overflow_add-result-2
 overflow_add-result-2 c = 
     let w = c in
-    let b = w in
+    let b = w.before.before in
     let base = b.segment_bytes-base.ensures.fact_1 ∙ base-bytes _ b.base.ensures in
     let wash = wash-bytes _ _ w.wash.ensures in
     record { fits = omega (arith, base, wash, w.segment_bytes-wash.ensures.fact_1) }
@@ -33,7 +33,7 @@ overflow_add-result-2 c =
 pub overflow_add-result-3 : goal.overflow_add-result-3
 overflow_add-result-3 c = 
     let w = c in
-    let b = w in
+    let b = w.before.before in
     let base = b.segment_bytes-base.ensures.fact_1 ∙ base-bytes _ b.base.ensures in
     let wash = wash-bytes _ _ w.wash.ensures in
     let lift = lift-bytes _ _ c.lift.ensures in
@@ -42,7 +42,7 @@ overflow_add-result-3 c =
 pub returns : goal.returns
 returns c = 
     let w = c in
-    let b = w in
+    let b = w.before.before in
     let base = b.segment_bytes-base.ensures.fact_1 ∙ ap segment_bytes b.base.ensures in
     let wash = w.segment_bytes-wash.ensures.fact_1 ∙ ap segment_bytes w.wash.ensures in
     let lift = c.segment_bytes-lift.ensures.fact_1 ∙ ap segment_bytes c.lift.ensures in

@@ -8,7 +8,7 @@ pub returns : goal.returns
 unfolding of_bits round neg
 returns c = 
     let s = c in
-    let b = s in
+    let b = s.before.before.before.before in
     simp (
       inside-all b.args.self,
       c.both.ensures,

@@ -8,7 +8,7 @@ pub returns : goal.returns
 unfolding outside_of of_bits round neg
 returns c = 
     let p = c in
-    let b = p in
+    let b = p.before.before.before.before.before.before.before.before in
     simp (
       c.or_else.ensures,
       c.or_else-after_position.ensures,
@@ -21,15 +21,15 @@ returns c =
       p.slots_outside-4.ensures.fact_1,
       p.after-scales.ensures,
       p.slots_outside-3.ensures.fact_1,
-      p.after-servos.ensures,
+      p.after_servos.ensures,
       p.slots_outside-2.ensures.fact_1,
-      p.after-motors.ensures,
+      p.after_motors.ensures,
       p.slots_outside.ensures.fact_1,
-      b.after-rates.ensures,
+      b.after_rates.ensures,
       b.vec_outside-2.ensures.fact_1,
-      b.after-attitude.ensures,
+      b.after_attitude.ensures,
       b.attitude_outside.ensures.fact_1,
-      b.after-velocity.ensures,
+      b.after_velocity.ensures,
       b.vec_outside.ensures.fact_1,
       b.vec_outside-position.ensures.fact_1,
       b.body-body.ensures,

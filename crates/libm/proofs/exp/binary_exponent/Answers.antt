@@ -18,14 +18,13 @@ read_back x u k e t =
     subst (λ (z : ℤ). ExponentOf x z) (sym (ap (λ (z : ℤ). to_z w64 (of_z w64 z)) e
     ∙ to_z-of_z w64 (to_signed 63 u) (record { sfits = to_signed_in 63 u }))) t
 
--- NOT MATCHED
-truncated-requires : tie.Need-truncated-requires
-unfolding of_bits
-truncated-requires c κs = let x = c.before.args.x in cut-is-small (x ⊗ log2e ⊕ half) (cut-up-in x c.before.requires)
-
 pub truncated-requires : goal.truncated-requires
 unfolding of_bits
-truncated-requires c = let x = c.args.x in cut-is-small (x ⊗ log2e ⊖ half) (cut-down-in x c.requires)
+truncated-requires c = let x = c.args.x in let s = cut-is-small (x ⊗ log2e ⊕ half) (cut-up-in x c.requires) in record { fact_1 = s.0; fact_2 = s.1 }
+
+pub truncated-requires-2 : goal.truncated-requires-2
+unfolding of_bits
+truncated-requires-2 c = let x = c.args.x in let s = cut-is-small (x ⊗ log2e ⊖ half) (cut-down-in x c.requires) in record { fact_1 = s.0; fact_2 = s.1 }
 
 pub returns-then-x : goal.returns-then-x
 unfolding of_bits

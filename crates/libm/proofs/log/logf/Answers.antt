@@ -8,24 +8,21 @@ use Rattle.libm.proofs.Signs.{above_no_nan, bits_pos, rest-has-no-ln, top-is-inf
 use Rattle.libm.specs.Log.{ln_of}
 use Rattle.libm.proofs.log.logf.Goals as goal
 
-held : (c : goal.Start) → T (fits binary32 c.args.v)
-held c = subst T (sym c.well-formed.0.1) tt
-
 pub float_to_bits-b : goal.float_to_bits-b
 float_to_bits-b c = above_no_nan c.args.v c.if-v.true
 
 pub positive-requires-clause-fact_1 : goal.positive-requires-clause-fact_1
-positive-requires-clause-fact_1 c = bits_pos c.args.v (held c) c.if-v.true
+positive-requires-clause-fact_1 c = bits_pos c.args.v (subst T (sym c.well_formed.0.1) tt) c.if-v.true
 
 pub positive-requires-clause-fact_2 : goal.positive-requires-clause-fact_2
 positive-requires-clause-fact_2 c = c.if-b-lt2139095040.true
 
 pub returns-then-b-lt2139095040 : goal.returns-then-b-lt2139095040
-returns-then-b-lt2139095040 c = c.positive.ensures ∙ ap ln_of (of_bits-to_bits binary32 c.args.v (held c))
+returns-then-b-lt2139095040 c = c.positive.ensures ∙ ap ln_of (of_bits-to_bits binary32 c.args.v (subst T (sym c.well_formed.0.1) tt))
 
 pub returns-then-v : goal.returns-then-v
 unfolding ln_of
-returns-then-v c = rw (top-is-infinite c.args.v (held c) c.if-v.true c.if-b-lt2139095040.false)
+returns-then-v c = rw (top-is-infinite c.args.v (subst T (sym c.well_formed.0.1) tt) c.if-v.true c.if-b-lt2139095040.false)
 
 pub float_from_bits-result : goal.float_from_bits-result
 unfolding nan_bits

@@ -1,8 +1,8 @@
 -- `libm::log::positive` meets its contract: below the normal range the pattern b is a whole number of 2 ^ -149, so b's own parts
 -- are taken, with 149 less in the exponent. Assumes nothing.
-use Prim.Native.Nat.{◌^◌}
+use Prim.Native.Nat.{◌^◌, ◌<◌, ℕ}
 use lib.Dec.{le→leb}
-use lib.Ieee.{Float, binary32, in_float, of_int}
+use lib.Ieee.{Float, binary32, in_float, of_bits, of_int, to_bits}
 use lib.Ieee.Bits.{of_bits-to_bits}
 use lib.Ieee.Fits.{of_int-fits}
 use lib.IntN.{◌-ℤ◌, pos, ℤ}
@@ -17,32 +17,23 @@ use Rattle.libm.specs.Promises.{Binary, SplitOf}
 use Rattle.libm.specs.Log.{ln_of_parts}
 use Rattle.libm.proofs.log.positive.Goals as goal
 
--- the parts of b as a float, and its exponent as the machine reads it
-whole_parts : (c : goal.After-mantissa_and_exponent-p) → SplitOf (of_int binary32 (pos c.before.before.before.args.b))
-    c.mantissa-and-exponent.result.mantissa c.mantissa-and-exponent.result.exponent
-whole_parts c =
-    let b = c.before.before.before.args.b in
-    let r = c.mantissa-and-exponent.result in
-    subst (λ (x : Float). SplitOf x r.mantissa r.exponent) (of_bits-to_bits binary32 (of_int binary32 (pos b)) (of_int-fits binary32 (pos b)))
-    c.mantissa-and-exponent.ensures
+-- what the parts of b as a float are, and the exponent as the machine reads it
+abbrev Whole : ℕ → Float → ℤ → Type 0
+Whole b m e = SplitOf (of_bits binary32 (to_bits binary32 (of_int binary32 (pos b)))) m e
 
-read : (c : goal.After-mantissa_and_exponent-p) → to_z w64 (of_z w64 c.mantissa-and-exponent.result.exponent) ≡ c.mantissa-and-exponent.result.exponent
-read c =
-    to_z-of_z w64 c.mantissa-and-exponent.result.exponent
-    (binary-fits c.mantissa-and-exponent.result.exponent c.mantissa-and-exponent.ensures.in-range)
+whole_parts : (b : ℕ) (m : Float) (e : ℤ) → Whole b m e → SplitOf (of_int binary32 (pos b)) m e
+whole_parts b m e w = subst (λ (x : Float). SplitOf x m e) (of_bits-to_bits binary32 (of_int binary32 (pos b)) (of_int-fits binary32 (pos b))) w
 
-lowered : (c : goal.After-mantissa_and_exponent-p) → Binary (c.mantissa-and-exponent.result.exponent -ℤ pos 149)
-lowered c =
-    let s = c.before.before.before in
-    lowered-binary s.args.b s.requires.0 c.before.before.if1.true c.mantissa-and-exponent.result.mantissa
-    c.mantissa-and-exponent.result.exponent (whole_parts c)
+read : (b : ℕ) (m : Float) (e : ℤ) → Whole b m e → to_z w64 (of_z w64 e) ≡ e
+read b m e w = to_z-of_z w64 e (binary-fits e w.in-range)
 
-read-lowered : (c : goal.After-mantissa_and_exponent-p) → to_z w64 (of_z w64 (to_z w64 (of_z w64 c.mantissa-and-exponent.result.exponent) -ℤ pos 149))
-    ≡ c.mantissa-and-exponent.result.exponent -ℤ pos 149
-read-lowered c =
-    ap (λ (z : ℤ). to_z w64 (of_z w64 (z -ℤ pos 149))) (read c)
-    ∙ to_z-of_z w64 (c.mantissa-and-exponent.result.exponent -ℤ pos 149)
-    (binary-fits (c.mantissa-and-exponent.result.exponent -ℤ pos 149) (lowered c))
+lowered : (b : ℕ) (m : Float) (e : ℤ) → 0 < b → b < 8388608 → Whole b m e → Binary (e -ℤ pos 149)
+lowered b m e p l w = lowered-binary b p l m e (whole_parts b m e w)
+
+read-lowered : (b : ℕ) (m : Float) (e : ℤ) → 0 < b → b < 8388608 → Whole b m e → to_z w64 (of_z w64 (to_z w64 (of_z w64 e) -ℤ pos 149)) ≡ e -ℤ pos 149
+read-lowered b m e p l w =
+    ap (λ (z : ℤ). to_z w64 (of_z w64 (z -ℤ pos 149))) (read b m e w)
+    ∙ to_z-of_z w64 (e -ℤ pos 149) (binary-fits (e -ℤ pos 149) (lowered b m e p l w))
 
 pub int_to_float-b : goal.int_to_float-b
 unfolding in_float
@@ -52,24 +43,33 @@ pub float_to_bits-b : goal.float_to_bits-b
 float_to_bits-b c = whole-number c.args.b c.requires.fact_1 c.if-b-lt8388608.true
 
 pub mantissa_and_exponent-p-requires : goal.mantissa_and_exponent-p-requires
-mantissa_and_exponent-p-requires c = whole-pattern c.args.b c.requires.fact_1 c.if-b-lt8388608.true
+mantissa_and_exponent-p-requires c =
+    let w = whole-pattern c.args.b c.requires.fact_1 c.if-b-lt8388608.true in record { fact_1 = w.0; fact_2 = w.1 }
 
 pub overflow_sub-p : goal.overflow_sub-p
-overflow_sub-p c = 
-    let k = c in
-    subst (λ (z : ℤ). SFits w64 (z -ℤ pos 149)) (sym (read k)) (binary-fits (k.mantissa_and_exponent-p.result.exponent -ℤ pos 149) (lowered k))
+overflow_sub-p c =
+    let b = c.args.b in
+    let r = c.mantissa_and_exponent-p.result in
+    let w = c.mantissa_and_exponent-p.ensures in
+    subst (λ (z : ℤ). SFits w64 (z -ℤ pos 149)) (sym (read b r.mantissa r.exponent w))
+    (binary-fits (r.exponent -ℤ pos 149) (lowered b r.mantissa r.exponent c.requires.fact_1 c.if-b-lt8388608.true w))
 
 pub joined-requires : goal.joined-requires
-joined-requires c = subst Binary (sym (read-lowered c)) (lowered c)
+joined-requires c =
+    let b = c.args.b in
+    let r = c.mantissa_and_exponent-p.result in
+    let w = c.mantissa_and_exponent-p.ensures in
+    subst Binary (sym (read-lowered b r.mantissa r.exponent c.requires.fact_1 c.if-b-lt8388608.true w))
+    (lowered b r.mantissa r.exponent c.requires.fact_1 c.if-b-lt8388608.true w)
 
 pub returns-then-b-lt8388608 : goal.returns-then-b-lt8388608
-returns-then-b-lt8388608 c = 
-    let k = c in
-    let s = k in
-    let r = k.mantissa_and_exponent-p.result in
+returns-then-b-lt8388608 c =
+    let b = c.args.b in
+    let r = c.mantissa_and_exponent-p.result in
+    let w = c.mantissa_and_exponent-p.ensures in
     c.joined.ensures
-    ∙ ap (λ (z : ℤ). ln_of_parts r.mantissa z) (read-lowered k)
-    ∙ ln-below s.args.b s.requires.fact_1 k.if-b-lt8388608.true r.mantissa r.exponent (whole_parts k)
+    ∙ ap (λ (z : ℤ). ln_of_parts r.mantissa z) (read-lowered b r.mantissa r.exponent c.requires.fact_1 c.if-b-lt8388608.true w)
+    ∙ ln-below b c.requires.fact_1 c.if-b-lt8388608.true r.mantissa r.exponent (whole_parts b r.mantissa r.exponent w)
 
 pub returns : goal.returns
 returns c = 

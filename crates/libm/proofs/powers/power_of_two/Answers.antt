@@ -12,18 +12,19 @@ use mir.Val.{Fits, SFits, of_z, to_z}
 use mir.ValLaws.{to_z-of_z}
 use native.Mathlib.Omega.{arith}
 use Rattle.libm.proofs.Entries.{Index, entry, index_of}
+use Rattle.libm.specs.Promises.{Exponent}
 use Rattle.libm.specs.Powers.{power_count}
 use Rattle.libm.proofs.powers.power_of_two.Goals as goal
 
 -- the index, as the machine reads the sum
-at : (c : goal.Start) → Index c.args.k (to_z w64 (of_z w64 c.args.k) +ℤ pos 126)
-at c = subst (λ (z : ℤ). Index c.args.k (z +ℤ pos 126)) (sym (to_z-of_z w64 c.args.k c.ranges.k)) (index_of c.args.k c.requires.0)
+at : (k : ℤ) → SFits w64 k → Exponent k → Index k (to_z w64 (of_z w64 k) +ℤ pos 126)
+at k r e = subst (λ (z : ℤ). Index k (z +ℤ pos 126)) (sym (to_z-of_z w64 k r)) (index_of k e)
 
 held : (n : ℕ) → n < power_count → SFits w64 (pos n)
 held n h = record { sfits = omega arith }
 
-again : (c : goal.Start) → to_z w64 (of_z w64 (to_z w64 (of_z w64 c.args.k) +ℤ pos 126)) ≡ pos (at c).i
-again c = ap (λ (z : ℤ). to_z w64 (of_z w64 z)) (at c).is ∙ to_z-of_z w64 (pos (at c).i) (held (at c).i (at c).below)
+again : (k : ℤ) (r : SFits w64 k) (e : Exponent k) → to_z w64 (of_z w64 (to_z w64 (of_z w64 k) +ℤ pos 126)) ≡ pos (at k r e).i
+again k r e = ap (λ (z : ℤ). to_z w64 (of_z w64 z)) (at k r e).is ∙ to_z-of_z w64 (pos (at k r e).i) (held (at k r e).i (at k r e).below)
 
 fit : (n : ℕ) → n < power_count → Fits w64 n
 fit n h = record { fits = omega arith }
@@ -32,21 +33,21 @@ fit-by-four : (n : ℕ) → n < power_count → Fits w64 (n * 4)
 fit-by-four n h = record { fits = omega arith }
 
 pub overflow_add-result : goal.overflow_add-result
-overflow_add-result c = subst (λ (z : ℤ). SFits w64 z) (sym (at c).is) (held (at c).i (at c).below)
+overflow_add-result c = subst (λ (z : ℤ). SFits w64 z) (sym (at c.args.k c.ranges.k c.requires.fact_1).is) (held (at c.args.k c.ranges.k c.requires.fact_1).i (at c.args.k c.ranges.k c.requires.fact_1).below)
 
 pub overflow_cast-result : goal.overflow_cast-result
-overflow_cast-result c = subst (λ (z : ℤ). T (non_neg z) × Fits w64 (nat_abs z)) (sym (again c)) (tt, fit (at c).i (at c).below)
+overflow_cast-result c = subst (λ (z : ℤ). T (non_neg z) × Fits w64 (nat_abs z)) (sym (again c.args.k c.ranges.k c.requires.fact_1)) (tt, fit (at c.args.k c.ranges.k c.requires.fact_1).i (at c.args.k c.ranges.k c.requires.fact_1).below)
 
 pub offset_bounds-powers-k : goal.offset_bounds-powers-k
-offset_bounds-powers-k c = subst (λ (z : ℤ). Fits w64 (nat_abs z * 4)) (sym (again c)) (fit-by-four (at c).i (at c).below)
+offset_bounds-powers-k c = subst (λ (z : ℤ). Fits w64 (nat_abs z * 4)) (sym (again c.args.k c.ranges.k c.requires.fact_1)) (fit-by-four (at c.args.k c.ranges.k c.requires.fact_1).i (at c.args.k c.ranges.k c.requires.fact_1).below)
 
 pub bounds-powers-k : goal.bounds-powers-k
-bounds-powers-k c = subst (λ (z : ℤ). nat_abs z < power_count) (sym (again c)) (at c).below
+bounds-powers-k c = subst (λ (z : ℤ). nat_abs z < power_count) (sym (again c.args.k c.ranges.k c.requires.fact_1)) (at c.args.k c.ranges.k c.requires.fact_1).below
 
 pub returns : goal.returns
 returns c = 
     let b = c in
-    ap (λ (z : ℤ). get_or b.args.powers.now (nat_abs z) nan) (again b)
-    ∙ ap (λ (t : List Float). get_or t (at b).i nan) b.requires.fact_2
-    ∙ entry (at b).i (at b).below
-    ∙ (at b).power
+    ap (λ (z : ℤ). get_or b.args.powers.now (nat_abs z) nan) (again b.args.k b.ranges.k b.requires.fact_1)
+    ∙ ap (λ (t : List Float). get_or t (at b.args.k b.ranges.k b.requires.fact_1).i nan) b.requires.fact_2
+    ∙ entry (at b.args.k b.ranges.k b.requires.fact_1).i (at b.args.k b.ranges.k b.requires.fact_1).below
+    ∙ (at b.args.k b.ranges.k b.requires.fact_1).power

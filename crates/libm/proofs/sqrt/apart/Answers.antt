@@ -5,8 +5,8 @@ use native.Mathlib.Omega.{arith}
 use Rattle.libm.proofs.RootValues.{doubled, normal-root, some_left, subnormal-root}
 use Rattle.libm.proofs.sqrt.apart.Goals as goal
 
-left : (c : goal.In-loop-m invariant-loop decreases-loop) → 1 ≤ c.before.loop.k
-left c = some_left c.before.before.before.args.b c.before.loop.m c.before.loop.k (omega arith) (omega arith) c.before.loop.invariant.2
+left : (c : goal.In-loop-m) → 1 ≤ c.loop-m.k
+left c = some_left c.args.b c.loop-m.m c.loop-m.k (omega arith) (omega arith) c.loop-m.invariant.2
 
 pub overflow_add-result : goal.overflow_add-result
 overflow_add-result c = omega arith

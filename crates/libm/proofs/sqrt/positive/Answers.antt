@@ -4,4 +4,4 @@ use borrow.Author.Rules.{rules}
 use Rattle.libm.proofs.sqrt.positive.Goals as goal
 
 pub returns : goal.returns
-returns c = c.scaled.ensures ∙ sym c.apart-p.ensures.fact_2.1.1
+returns c = c.scaled.ensures ∙ sym c.apart-p.ensures.fact_4

@@ -1,9 +1,4 @@
 -- `libm::sqrt::scaled` meets its contract: s with j / 2 pairs of zeros after it is the number, and its root is near's with j / 2 zeros. Assumes nothing.
--- where the arms meet
-record Fact (s m j : ℕ) : Type 0 where
-  lo : 2 ^ 46 ≤ s
-  hi : s + 2 ^ 24 ≤ 2 ^ 48
-  is : s * 4 ^ (j / 2) ≡ m * 2 ^ (j + 23)
 use Prim.Native.Nat.{◌*◌, ◌+◌, ◌/◌, ◌^◌, ◌≤◌, ℕ}
 use lib.Ieee.{binary32}
 use mathlib.Core.Logic.{⊎_elim}
@@ -16,21 +11,28 @@ use Rattle.libm.proofs.Roots.{scaled-root}
 use Rattle.libm.proofs.Squares.{Near}
 use Rattle.libm.specs.Sqrt.{root_units}
 use Rattle.libm.proofs.sqrt.scaled.Goals as goal
+use Rattle.libm.proofs.sqrt.scaled.Goals.{then-j-eq0, else-j-eq0}
 
-fact : (c : goal.Joined-j-eq0) → Fact c.if1.s c.before.args.m c.before.args.j
+-- where the arms meet
+record Fact (s m j : ℕ) : Type 0 where
+  lo : 2 ^ 46 ≤ s
+  hi : s + 2 ^ 24 ≤ 2 ^ 48
+  is : s * 4 ^ (j / 2) ≡ m * 2 ^ (j + 23)
+
+fact : (c : goal.Joined-j-eq0) → Fact c.if-j-eq0.s c.args.m c.args.j
 fact c =
-    ⊎_elim
-    (λ w. record {
-      lo = omega arith;
-      hi = omega arith;
-      is = ap (λ (x : ℕ). x * 4 ^ (c.before.args.j / 2)) w.1 ∙ even-part c.before.args.m c.before.args.j w.0.taken;
-    })
-    (λ w. record {
-      lo = omega arith;
-      hi = omega arith;
-      is = ap (λ (x : ℕ). x * 4 ^ (c.before.args.j / 2)) w.1 ∙ odd_part c.before.args.m c.before.args.j w.0.left;
-    })
-    c.if1.branch
+    elim c.if-j-eq0.branch [
+      then-j-eq0 w ↦ record {
+        lo = omega arith;
+        hi = omega arith;
+        is = ap (λ (x : ℕ). x * 4 ^ (c.args.j / 2)) w.s-is ∙ even-part c.args.m c.args.j w.if-j-eq0.true;
+      }
+    | else-j-eq0 w ↦ record {
+        lo = omega arith;
+        hi = omega arith;
+        is = ap (λ (x : ℕ). x * 4 ^ (c.args.j / 2)) w.s-is ∙ odd_part c.args.m c.args.j w.if-j-eq0.false;
+      }
+    ]
 
 pub near-q-requires-clause-fact_1 : goal.near-q-requires-clause-fact_1
 near-q-requires-clause-fact_1 c = (fact c).lo
@@ -48,5 +50,5 @@ returns c =
     let q = c.near-q.result in
     let near : Near s q = record { above = omega arith; below = omega arith } in
     sym (units-pattern q h (omega arith) (omega arith) (omega arith))
-    ∙ sym (scaled-root s h q (fact c).lo (omega (arith, (fact c).hi)) near)
-    ∙ ap (λ (x : ℕ). root_units binary32 x 1) (fact c).is
+    ∙ sym (scaled-root s h q (fact c.before).lo (omega (arith, (fact c.before).hi)) near)
+    ∙ ap (λ (x : ℕ). root_units binary32 x 1) (fact c.before).is

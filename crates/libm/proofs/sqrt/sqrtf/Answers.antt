@@ -8,10 +8,6 @@ use Rattle.libm.proofs.Signs.{above_no_nan, bits_pos, rest-has-no-root, top-is-i
 use Rattle.libm.specs.Sqrt.{sqrt_of}
 use Rattle.libm.proofs.sqrt.sqrtf.Goals as goal
 
--- what owning an `f32` tells: the format holds it
-held : (c : goal.Start) → T (fits binary32 c.args.x)
-held c = subst T (sym c.well-formed.0.1) tt
-
 pub float_to_bits-b : goal.float_to_bits-b
 float_to_bits-b c = above_no_nan c.args.x c.if-x.true
 
@@ -19,7 +15,7 @@ pub guess-requires : goal.guess-requires
 guess-requires c = above_no_nan c.args.x c.if-x.true
 
 pub positive-requires-clause-fact_1 : goal.positive-requires-clause-fact_1
-positive-requires-clause-fact_1 c = bits_pos c.args.x (held c) c.if-x.true
+positive-requires-clause-fact_1 c = bits_pos c.args.x (subst T (sym c.well_formed.0.1) tt) c.if-x.true
 
 pub positive-requires-clause-fact_2 : goal.positive-requires-clause-fact_2
 positive-requires-clause-fact_2 c = c.if-b-lt2139095040.true
@@ -27,11 +23,11 @@ positive-requires-clause-fact_2 c = c.if-b-lt2139095040.true
 pub returns-then-b-lt2139095040 : goal.returns-then-b-lt2139095040
 returns-then-b-lt2139095040 c = 
     c.positive.ensures ∙ ap (sqrt_of binary32)
-    (of_bits-to_bits binary32 c.args.x (held c))
+    (of_bits-to_bits binary32 c.args.x (subst T (sym c.well_formed.0.1) tt))
 
 pub returns-then-x : goal.returns-then-x
 unfolding sqrt_of
-returns-then-x c = rw (top-is-infinite c.args.x (held c) c.if-x.true c.if-b-lt2139095040.false)
+returns-then-x c = rw (top-is-infinite c.args.x (subst T (sym c.well_formed.0.1) tt) c.if-x.true c.if-b-lt2139095040.false)
 
 pub returns-then-x-2 : goal.returns-then-x-2
 returns-then-x-2 c = zero-is-root c.args.x c.if-x-2.true

@@ -23,8 +23,8 @@ loop-i-preserved c =
     let i = s.loop-i.i in
     let one-n = c.still_thrust_n-one_n in (
       search rules,
-      sum_more (slot_thrust a.self no_falloff) i s.loop-i.thrust-n one-n.result s.loop-i.invariant.1 one-n.ensures,
-      vec-sum-more (slot_torque a.self no_falloff) i s.loop-i.torque-nm c.scale.result c.add-torque_nm.result s.loop-i.invariant.2
+      sum_more (slot_thrust a.self no_falloff) i s.loop-i.thrust_n one-n.result s.loop-i.invariant.1 one-n.ensures,
+      vec-sum-more (slot_torque a.self no_falloff) i s.loop-i.torque_nm c.scale.result c.add-torque_nm.result s.loop-i.invariant.2
           (c.scale.ensures ∙ ap (scale_of (vec_at a.self.group.torque_per_thrust_m i)) {y = slot_thrust a.self no_falloff i}
           one-n.ensures) c.add-torque_nm.ensures,
     )

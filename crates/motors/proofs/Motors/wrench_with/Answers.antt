@@ -21,11 +21,11 @@ loop-i-preserved c =
     let s = c in
     let a = s.args in
     let i = s.loop-i.i in
-    let left = falloff_at a.falloff a.self.group.layout a.airspeed-mps in
+    let left = falloff_at a.falloff a.self.group.layout a.airspeed_mps in
     let one-n = c.motor_thrust_n-one_n in (
       search rules,
-      sum_more (slot_thrust a.self left) i s.loop-i.thrust-n one-n.result s.loop-i.invariant.1 one-n.ensures,
-      vec-sum-more (slot_torque a.self left) i s.loop-i.torque-nm c.scale.result c.add-torque_nm.result s.loop-i.invariant.2
+      sum_more (slot_thrust a.self left) i s.loop-i.thrust_n one-n.result s.loop-i.invariant.1 one-n.ensures,
+      vec-sum-more (slot_torque a.self left) i s.loop-i.torque_nm c.scale.result c.add-torque_nm.result s.loop-i.invariant.2
           (c.scale.ensures ∙ ap (scale_of (vec_at a.self.group.torque_per_thrust_m i)) {y = slot_thrust a.self left i}
           one-n.ensures) c.add-torque_nm.ensures,
     )

@@ -7,7 +7,7 @@ use Rattle.quadplane_model.proofs.LiftRotors.wrench.Goals as goal
 pub returns : goal.returns
 unfolding lift_wrench lift_by lift_force of_bits
 returns c = 
-    let t = c in let s = t in
+    let t = c in let s = t.before.before.before.before in
     simp (
       t.sub-force_n.ensures,
       t.new.ensures,
