@@ -52,33 +52,33 @@ module _ {K : Type 0} (𝓕 : Field K) where
   pub mul-one : (x : K) → x * 𝟙 ≡ x
   mul-one = 𝓕.ring.is_comm_ring.is_ring.is_semiring.mul-one
 
-  pub neg_add_cancel : (x : K) → - x + x ≡ 𝟘
-  neg_add_cancel = 𝓕.ring.is_comm_ring.is_ring.neg_add_cancel
+  pub neg-add_cancel : (x : K) → - x + x ≡ 𝟘
+  neg-add_cancel = 𝓕.ring.is_comm_ring.is_ring.neg-add_cancel
 
   pub add_neg_cancel : (x : K) → x + - x ≡ 𝟘
-  add_neg_cancel x = add_comm x (- x) ∙ neg_add_cancel x
+  add_neg_cancel x = add_comm x (- x) ∙ neg-add_cancel x
 
   -- ---- negation
   -- a number is told by what it comes to with another
   negation-is : (x y : K) → y + x ≡ 𝟘 → y ≡ - x
   negation-is x y h =
-      sym (add-zero y) ∙ ap (λ (t : K). y + t) (sym (neg_add_cancel x) ∙ add_comm _ _) ∙ sym (add_assoc y x (- x)) ∙ ap (λ (t : K). t + - x) h ∙ zero-add _
+      sym (add-zero y) ∙ ap (λ (t : K). y + t) (sym (neg-add_cancel x) ∙ add_comm _ _) ∙ sym (add_assoc y x (- x)) ∙ ap (λ (t : K). t + - x) h ∙ zero-add _
 
   pub neg-zero : - 𝟘 ≡ 𝟘
   neg-zero = sym (negation-is 𝟘 𝟘 (add-zero 𝟘))
 
   pub neg-mul : (x y : K) → - x * y ≡ - (x * y)
-  neg-mul x y = negation-is (x * y) (- x * y) (sym (right_distrib (- x) x y) ∙ ap (λ (t : K). t * y) (neg_add_cancel x) ∙ zero-mul y)
+  neg-mul x y = negation-is (x * y) (- x * y) (sym (right_distrib (- x) x y) ∙ ap (λ (t : K). t * y) (neg-add_cancel x) ∙ zero-mul y)
 
   pub mul-neg : (x y : K) → x * - y ≡ - (x * y)
   mul-neg x y = mul_comm x (- y) ∙ neg-mul y x ∙ ap -◌ (mul_comm y x)
 
   pub neg-neg : (x : K) → - - x ≡ x
-  neg-neg x = sym (negation-is (- x) x (add_comm _ _ ∙ neg_add_cancel x))
+  neg-neg x = sym (negation-is (- x) x (add_comm _ _ ∙ neg-add_cancel x))
 
   pub neg-add : (x y : K) → - (x + y) ≡ - x + - y
   neg-add x y =
-      sym (negation-is (x + y) (- x + - y) (sorted ∙ ap (λ (t : K). t + (- y + y)) (neg_add_cancel x) ∙ zero-add _ ∙ neg_add_cancel y))
+      sym (negation-is (x + y) (- x + - y) (sorted ∙ ap (λ (t : K). t + (- y + y)) (neg-add_cancel x) ∙ zero-add _ ∙ neg-add_cancel y))
     where
       sorted : - x + - y + (x + y) ≡ - x + x + (- y + y)
       sorted = simp (add_assoc, add_comm, add_left_comm)
@@ -106,7 +106,7 @@ module _ {K : Type 0} (𝓕 : Field K) where
 
   -- y = x + (y - x)
   pub apart : (x y : K) → x + (y + - x) ≡ y
-  apart x y = sorted ∙ ap (λ (t : K). y + t) (neg_add_cancel x) ∙ add-zero y
+  apart x y = sorted ∙ ap (λ (t : K). y + t) (neg-add_cancel x) ∙ add-zero y
     where
       sorted : x + (y + - x) ≡ y + (- x + x)
       sorted = simp (add_comm, add_left_comm)

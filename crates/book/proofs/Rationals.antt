@@ -192,7 +192,7 @@ rationals = record {
           one-mul = one-mul;
           mul-one = all _ _ (λ x. sound (omega arith));
         };
-        neg_add_cancel = all _ _ (λ x. sound (omega arith));
+        neg-add_cancel = all _ _ (λ x. sound (omega arith));
       };
       mul_comm = mul_comm;
     };

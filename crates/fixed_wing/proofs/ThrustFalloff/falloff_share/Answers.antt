@@ -5,8 +5,8 @@ use Rattle.fixed_wing.proofs.ThrustFalloff.falloff_share.Goals as goal
 
 pub returns-in-Linear : goal.returns-in-Linear
 unfolding falloff_share linear_share
-returns-in-Linear c = simp (c.at_least_zero.ensures, c.self-1.given.1, c.at_least_zero-airspeed_mps.ensures)
+returns-in-Linear c = simp (c.at_least_zero.ensures, c.in-Linear.is, c.at_least_zero-airspeed_mps.ensures)
 
 pub returns-in-PitchSpeed : goal.returns-in-PitchSpeed
 unfolding falloff_share linear_share
-returns-in-PitchSpeed c = simp (c.pitch_speed_share.ensures, c.self-in-PitchSpeed-1.given.1, c.at_least_zero-airspeed_mps.ensures)
+returns-in-PitchSpeed c = simp (c.pitch_speed_share.ensures, c.in-PitchSpeed.is, c.at_least_zero-airspeed_mps.ensures)

@@ -16,7 +16,7 @@ loop-i-init c = (search rules, search rules, refl)
 pub loop-i-preserved : goal.loop-i-preserved
 loop-i-preserved c = 
     let s = c in
-    (search rules, search rules, put-more _ _ _ s.loop-i.i _ _ s.loop-i.invariant.2 c.put_group.ensures)
+    (search rules, search rules, put-more _ _ _ s.loop-i.i _ _ s.loop-i.invariant.2 c.put-group.ensures)
 
 pub returns : goal.returns
 unfolding group_of
@@ -25,4 +25,4 @@ returns c =
     let a = s.args in
     let n = le_antisymm s.loop-i.invariant.0 c.loop-i-test.false ∙ s.live-count.ensures.value in
     s.loop-i.invariant.2 ∙ ap (put_to put_motor_row _ a.rows.rows) n
-    ∙ ap (λ (g : MotorGroup). put_to put_motor_row g a.rows.rows (live_of a.rows)) s.empty_group.ensures
+    ∙ ap (λ (g : MotorGroup). put_to put_motor_row g a.rows.rows (live_of a.rows)) s.empty-group.ensures

@@ -20,8 +20,8 @@ loop-i-preserved c =
     let s = c in
     let a = s.args in
     let i = s.loop-i.i in
-    fill_more nan (move_at a.self a.t2 a.factor) a.self.running s.loop-i.running i c.approach_saturated.result
-    (c.approach_saturated.ensures ∙ ap (λ (z : Float). approach_saturated z (at a.t2 i) minus_one one zero a.factor)
+    fill_more nan (move_at a.self a.commands a.factor) a.self.running s.loop-i.running i c.approach_saturated.result
+    (c.approach_saturated.ensures ∙ ap (λ (z : Float). approach_saturated z (at a.commands i) minus_one one zero a.factor)
     (s.loop-i.invariant.left i (le_refl i))) c.loop-i-test.true s.loop-i.invariant
 
 pub returns : goal.returns
