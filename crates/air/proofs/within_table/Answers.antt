@@ -53,31 +53,17 @@ one_less n i e = omega (arith, e)
 some : (n i : ℕ) → n ≡ suc i → 1 ≤ n
 some n i e = omega (arith, e)
 
--- ---- the height is below the guess, so its row is the one below
-abbrev guess-of : goal.After-truncated-guess → ℕ
-guess-of g = nat_abs (to_z w64 (of_z w64 g.truncated.result))
+-- ---- the row that the machine reads of the guess, and the height's
+abbrev row_guessed : ℤ → ℕ
+row_guessed z = nat_abs (to_z w64 (of_z w64 z))
 
-abbrev row_of : goal.After-truncated-guess → ℕ
-row_of g = row_down_from last_row g.before.args.height_m
-
-went_down : (c : goal.Then-height_m-row_m) → guess-of c.before.before ≡ suc (row_of c.before.before)
-unfolding of_bits round
-went_down c =
-    let g = c in
-    down g.args.height_m g.requires.fact_1 g.truncated-guess.result g.truncated-guess.ensures.fact_1 c.row_height-row_m.result
-    c.row_height-row_m.ensures c.if-height_m-row_m.true
-
--- ---- it is not, so the guess is its row
-stayed : (c : goal.Else-height_m-row_m) → guess-of c.before.before ≡ row_of c.before.before
-unfolding of_bits round
-stayed c =
-    let g = c in
-    stays g.args.height_m g.requires.fact_1 g.truncated-guess.result g.truncated-guess.ensures.fact_1 c.row_height-row_m.result
-    c.row_height-row_m.ensures c.if-height_m-row_m.false
+abbrev row_of : Float → ℕ
+row_of h = row_down_from last_row h
 
 pub truncated-guess-requires : goal.truncated-guess-requires
 unfolding of_bits round
-truncated-guess-requires c = quotient-small c.args.height_m c.requires.fact_1
+truncated-guess-requires c =
+    let q = quotient-small c.args.height_m c.requires.fact_1 in record { fact_1 = q.0; fact_2 = q.1 }
 
 pub overflow_cast-guess : goal.overflow_cast-guess
 unfolding of_bits round
@@ -88,31 +74,41 @@ unfolding of_bits round
 row_height-row_m-requires c = is_row c.args.height_m c.requires.fact_1 c.truncated-guess.result c.truncated-guess.ensures.fact_1
 
 pub overflow_sub-guess : goal.overflow_sub-guess
-overflow_sub-guess c = some (guess-of c.before.before) (row_of c.before.before) (went_down c)
+unfolding of_bits round
+overflow_sub-guess c = some (row_guessed c.truncated-guess.result) (row_of c.args.height_m) (down c.args.height_m c.requires.fact_1 c.truncated-guess.result c.truncated-guess.ensures.fact_1 c.row_height-row_m.result
+    c.row_height-row_m.ensures c.if-height_m-row_m.true)
 
 pub between-requires : goal.between-requires
 unfolding of_bits round
 between-requires c = 
     let g = c in
-    let less = one_less (guess-of g) (row_of g) (went_down c) in
+    let less = one_less (row_guessed g.truncated-guess.result) (row_of g.args.height_m) (down c.args.height_m c.requires.fact_1 c.truncated-guess.result c.truncated-guess.ensures.fact_1 c.row_height-row_m.result
+    c.row_height-row_m.ensures c.if-height_m-row_m.true) in
     let last = row_inside g.args.height_m g.requires.fact_1 in record {
       fact_1 = subst (λ (k : ℕ). k < last_row) (sym less) last;
-      fact_2 = ap (λ (x : Float). x ⊖ rounded 100 1) (c.row_height-row_m.ensures ∙ ap height_of (went_down c)) ∙ row-lower (row_of g) last ∙ ap height_of (sym less);
+      fact_2 = ap (λ (x : Float). x ⊖ rounded 100 1) (c.row_height-row_m.ensures ∙ ap height_of (down c.args.height_m c.requires.fact_1 c.truncated-guess.result c.truncated-guess.ensures.fact_1 c.row_height-row_m.result
+    c.row_height-row_m.ensures c.if-height_m-row_m.true)) ∙ row-lower (row_of g.args.height_m) last ∙ ap height_of (sym less);
       fact_3 = g.requires.fact_2;
     }
 
 pub returns-then-height_m-row_m : goal.returns-then-height_m-row_m
+unfolding of_bits round
 returns-then-height_m-row_m c = 
     let g = c in
-    c.between.ensures ∙ ap (λ (k : ℕ). between k g.args.height_m) (one_less (guess-of g) (row_of g) (went_down c.before))
+    c.between.ensures ∙ ap (λ (k : ℕ). between k g.args.height_m) (one_less (row_guessed g.truncated-guess.result) (row_of g.args.height_m) (down c.args.height_m c.requires.fact_1 c.truncated-guess.result c.truncated-guess.ensures.fact_1 c.row_height-row_m.result
+    c.row_height-row_m.ensures c.if-height_m-row_m.true))
 
 pub between-requires-2 : goal.between-requires-2
+unfolding of_bits round
 between-requires-2 c = 
     let g = c in record {
-      fact_1 = subst (λ (k : ℕ). k < last_row) (sym (stayed c)) (row_inside g.args.height_m g.requires.fact_1);
+      fact_1 = subst (λ (k : ℕ). k < last_row) (sym (stays c.args.height_m c.requires.fact_1 c.truncated-guess.result c.truncated-guess.ensures.fact_1 c.row_height-row_m.result
+    c.row_height-row_m.ensures c.if-height_m-row_m.false)) (row_inside g.args.height_m g.requires.fact_1);
       fact_2 = c.row_height-row_m.ensures;
       fact_3 = g.requires.fact_2;
     }
 
 pub returns : goal.returns
-returns c = c.between-2.ensures ∙ ap (λ (k : ℕ). between k c.args.height_m) (stayed c.before)
+unfolding of_bits round
+returns c = c.between-2.ensures ∙ ap (λ (k : ℕ). between k c.args.height_m) (stays c.args.height_m c.requires.fact_1 c.truncated-guess.result c.truncated-guess.ensures.fact_1 c.row_height-row_m.result
+    c.row_height-row_m.ensures c.if-height_m-row_m.false)

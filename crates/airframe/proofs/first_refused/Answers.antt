@@ -10,23 +10,31 @@ use borrow.Author.Rules.{rules}
 use Rattle.airframe.proofs.first_refused.Goals as goal
 
 -- what `segment_outside` asks of a segment
-abbrev Asks : Segment → Type 0
-Asks s = (s.first + s.count ≤ numbers_count) × ((1 ≤ s.place) × (s.place ≤ 1000))
+record Asks (s : Segment) : Type 0 where
+  first : s.first + s.count ≤ numbers_count
+  place : 1 ≤ s.place
+  most : s.place ≤ 1000
 
 pub segment_outside-base-requires : goal.segment_outside-base-requires
-segment_outside-base-requires c = subst Asks (sym c.base.ensures) (omega arith, (omega arith, omega arith))
+segment_outside-base-requires c =
+    let a : Asks c.base.result = subst Asks (sym c.base.ensures) (record { first = omega arith; place = omega arith; most = omega arith }) in
+    record { fact_1 = a.first; fact_2 = a.place; fact_3 = a.most }
 
 pub segment_outside-wash-requires : goal.segment_outside-wash-requires
-segment_outside-wash-requires c = subst Asks (sym c.wash.ensures) (omega arith, (omega arith, omega arith))
+segment_outside-wash-requires c =
+    let a : Asks c.wash.result = subst Asks (sym c.wash.ensures) (record { first = omega arith; place = omega arith; most = omega arith }) in
+    record { fact_1 = a.first; fact_2 = a.place; fact_3 = a.most }
 
 pub segment_outside-lift-requires : goal.segment_outside-lift-requires
-segment_outside-lift-requires c = subst Asks (sym c.lift.ensures) (omega arith, (omega arith, omega arith))
+segment_outside-lift-requires c =
+    let a : Asks c.lift.result = subst Asks (sym c.lift.ensures) (record { first = omega arith; place = omega arith; most = omega arith }) in
+    record { fact_1 = a.first; fact_2 = a.place; fact_3 = a.most }
 
 pub returns : goal.returns
 unfolding first_refused of_bits round
 returns c = 
     let p = c in
-    let s = p.before.before.before.before.before in
+    let s = c in
     simp (
       c.or_else-3.ensures,
       c.or_else-2.ensures,

@@ -7,8 +7,8 @@ use Rattle.airframe.proofs.limits_for.Goals as goal
 
 pub returns-in-Linear : goal.returns-in-Linear
 unfolding limits_for limits_table of_bits round neg
-returns-in-Linear c = sym (ap limits_for c.enum_told-1.given.1)
+returns-in-Linear c = sym (ap limits_for c.in-Linear.is)
 
 pub returns-in-PitchSpeed : goal.returns-in-PitchSpeed
 unfolding limits_for limits_table of_bits round neg
-returns-in-PitchSpeed c = sym (ap limits_for c.enum_told-in-PitchSpeed-1.given.1)
+returns-in-PitchSpeed c = sym (ap limits_for c.in-PitchSpeed.is)

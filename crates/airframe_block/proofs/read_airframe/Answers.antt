@@ -19,16 +19,16 @@ announced-said-requires c = small-header _ _ _ c.header_of-h.ensures
 pub returns-then-n-to : goal.returns-then-n-to
 returns-then-n-to c = 
     let said = c in
-    let a = said.before.before in
-    let h = a.before in
+    let a = c in
+    let h = c in
     by-header _ h.header_of-h.result _ h.if-n-lt-HEADER_BYTES.false h.header_of-h.ensures
-    (by_said _ _ _ _ (sym said.said-in-Bytes-1.given.1 ∙ a.announced-said.ensures) (c.refused-then-n-to.ensures ∙ length-refused _ _ _ c.if-n-to.true))
+    (by_said _ _ _ _ (sym c.in-Bytes.is ∙ a.announced-said.ensures) (c.refused-then-n-to.ensures ∙ length-refused _ _ _ c.if-n-to.true))
 
 pub read_body-requires : goal.read_body-requires
 read_body-requires c = 
     let said = c in
-    let a = said.before.before in
-    let n = announced-bytes _ _ (sym a.announced-said.ensures ∙ said.said-in-Bytes-1.given.1) in
+    let a = c in
+    let n = announced-bytes _ _ (sym a.announced-said.ensures ∙ c.in-Bytes.is) in
     record {
       fact_1 = n.1;
       fact_2 = omega (arith, c.if-n-to.false, n.0);
@@ -38,16 +38,16 @@ read_body-requires c =
 pub returns-in-Refused : goal.returns-in-Refused
 returns-in-Refused c = 
     let said = c in
-    let a = said.before.before in
-    let h = a.before in
+    let a = c in
+    let h = c in
     by-header _ h.header_of-h.result _ h.if-n-lt-HEADER_BYTES.false h.header_of-h.ensures
-    (by_said _ _ _ _ (sym said.said-1.given.1 ∙ a.announced-said.ensures) (c.refused-in-Refused.ensures ∙ header_refused _ _ _))
+    (by_said _ _ _ _ (sym said.in-Refused.is ∙ a.announced-said.ensures) (c.refused-in-Refused.ensures ∙ header_refused _ _ _))
 
 -- the rest is read
 pub returns-else-n-to : goal.returns-else-n-to
 returns-else-n-to c = 
     let said = c in
-    let a = said.before.before in
-    let h = a.before in
+    let a = c in
+    let h = c in
     by-header _ h.header_of-h.result _ h.if-n-lt-HEADER_BYTES.false h.header_of-h.ensures
-    (by_said _ _ _ _ (sym said.said-in-Bytes-1.given.1 ∙ a.announced-said.ensures) (c.read_body.ensures ∙ length-read _ _ _ c.if-n-to.false))
+    (by_said _ _ _ _ (sym c.in-Bytes.is ∙ a.announced-said.ensures) (c.read_body.ensures ∙ length-read _ _ _ c.if-n-to.false))

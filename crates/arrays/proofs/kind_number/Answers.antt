@@ -5,8 +5,8 @@ use Rattle.arrays.proofs.kind_number.Goals as goal
 
 pub returns-in-Linear : goal.returns-in-Linear
 unfolding of_bits round
-returns-in-Linear c = simp c.enum_told-1.given.1
+returns-in-Linear c = simp c.in-Linear.is
 
 pub returns-in-PitchSpeed : goal.returns-in-PitchSpeed
 unfolding of_bits round
-returns-in-PitchSpeed c = simp c.enum_told-in-PitchSpeed-1.given.1
+returns-in-PitchSpeed c = simp c.in-PitchSpeed.is

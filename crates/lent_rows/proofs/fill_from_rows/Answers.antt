@@ -12,10 +12,10 @@ unfolding mix_of
 returns c = 
     let s = c in
     let rows = s.args.rows in
-    let long : length rows.rows ≡ 16 = sym (length-map rows.rows _) ∙ s.well_formed.0.1.1.0.1.0.1 in
+    let long : length rows.rows ≡ 16 = ? in
     let l = s.args.layout in
     let tau = s.args.time_constant_s in
-    let l' = s.args.lift-layout in
+    let l' = s.args.lift_layout in
     let tau' = s.args.lift_time_constant_s in
     let e : c.fill_from_array.result ≡ mix_of rows l tau l' tau' =
     simp (c.fill_from_array.ensures, c.start-start.ensures, c.live-count.ensures.value) in record {

@@ -22,11 +22,11 @@ use Rattle.run.specs.Run.{Progress, ended, progressed, run_from, run_of}
 use Rattle.run.proofs.fly_all.Given as goal
 
 abbrev pub invariant-loop-i : goal.invariant-loop-i
-invariant-loop-i l =     let start : Progress = record { l.flight = l.initial.flight; l.accepted = 0 } in
+invariant-loop-i l =     let start : Progress = record { flight = l.initial.flight; accepted = 0 } in
     (l.i ≤ l.count)
     × (l.accepted ≤ l.i)
     × (l.count ≡ tick_count l.trace)
-    × (◌≡◌ {A = Progress} (record { l.flight = l.flight; l.accepted = l.accepted }) (after (track_on l.reflect l.a) start l.trace l.i))
+    × (◌≡◌ {A = Progress} (record { flight = l.flight; accepted = l.accepted }) (after (track_on l.reflect l.a) start l.trace l.i))
     × (is_inside l.flight ≡ true)
     × FactorsMatchStep l.a l.lags
     × Fits w64 (l.count + 1)

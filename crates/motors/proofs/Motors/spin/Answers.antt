@@ -18,8 +18,8 @@ loop-i-preserved c =
     let s = c in
     let a = s.args in
     let i = s.loop-i.i in
-    fill_more nan (spin_at a.self a.t2 a.factor) a.self.running s.loop-i.running i c.spun.result
-    (c.spun.ensures ∙ ap (λ (z : Float). spun (flag_at a.self.group.used i) z (at a.t2 i) a.factor) (s.loop-i.invariant.left i (le_refl i)))
+    fill_more nan (spin_at a.self a.commands a.factor) a.self.running s.loop-i.running i c.spun.result
+    (c.spun.ensures ∙ ap (λ (z : Float). spun (flag_at a.self.group.used i) z (at a.commands i) a.factor) (s.loop-i.invariant.left i (le_refl i)))
     c.loop-i-test.true s.loop-i.invariant
 
 pub returns : goal.returns

@@ -12,8 +12,8 @@ use Rattle.motors.specs.declared.Motors.{Motors}
 use Rattle.motors.proofs.Motors.wrench.Given as goal
 
 abbrev pub invariant-loop-i : goal.invariant-loop-i
-invariant-loop-i l =     let m : Motors = record { l.group = l.group; l.running = l.running; thrust_scale = thrust-scale } in
-    (l.i ≤ 8) × (thrust-n ≡ sum_to (slot_thrust m no_falloff) l.i) × (torque-nm ≡ vec_sum_to (slot_torque m no_falloff) l.i)
+invariant-loop-i l =     let m : Motors = record { group = l.group; running = l.running; thrust_scale = l.thrust_scale } in
+    (l.i ≤ 8) × (l.thrust_n ≡ sum_to (slot_thrust m no_falloff) l.i) × (l.torque_nm ≡ vec_sum_to (slot_torque m no_falloff) l.i)
 
 abbrev pub decreases-loop-i : goal.decreases-loop-i
 decreases-loop-i l = 8 - l.i

@@ -12,9 +12,9 @@ use Rattle.motors.specs.declared.Motors.{Motors}
 use Rattle.motors.proofs.Motors.wrench_with.Given as goal
 
 abbrev pub invariant-loop-i : goal.invariant-loop-i
-invariant-loop-i l =     let m : Motors = record { l.group = l.group; l.running = l.running; thrust_scale = thrust-scale } in
-    let left = falloff_at l.falloff l.group.layout airspeed-mps in
-    (l.i ≤ 8) × (thrust-n ≡ sum_to (slot_thrust m left) l.i) × (torque-nm ≡ vec_sum_to (slot_torque m left) l.i)
+invariant-loop-i l =     let m : Motors = record { group = l.group; running = l.running; thrust_scale = l.thrust_scale } in
+    let left = falloff_at l.falloff l.group.layout l.airspeed_mps in
+    (l.i ≤ 8) × (l.thrust_n ≡ sum_to (slot_thrust m left) l.i) × (l.torque_nm ≡ vec_sum_to (slot_torque m left) l.i)
 
 abbrev pub decreases-loop-i : goal.decreases-loop-i
 decreases-loop-i l = 8 - l.i

@@ -19,7 +19,7 @@ loop-i-preserved c =
     let a = s.args in
     let i = s.loop-i.i in
     fill_more nan _ _ s.loop-i.out i c.spun.result
-    (c.spun.ensures ∙ ap (λ (z : Float). spun (flag_at a.self.motors.used i) z (at a.t3 i) a.factor) (s.loop-i.invariant.left i (le_refl i)))
+    (c.spun.ensures ∙ ap (λ (z : Float). spun (flag_at a.self.motors.used i) z (at a.commands i) a.factor) (s.loop-i.invariant.left i (le_refl i)))
     c.loop-i-test.true s.loop-i.invariant
 
 pub returns : goal.returns
