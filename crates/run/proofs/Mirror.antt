@@ -55,7 +55,9 @@ pub calls-mirror : {a a' : Airframe} {f f' : Flight} {ts ts' : List Tick} → Ai
     → Each Agree (calls_of a f ts) (calls_of a' f' ts')
 unfolding calls_of
 calls-mirror h k each_none = each_none
-calls-mirror h k (each_more w ws) = let r = tick-mirror h k w in each_more (agree r) (calls-mirror h r.flight ws)
+calls-mirror {a = a} {a' = a'} {f = f} {f' = f'} h k (each_more {x = x} {y = y} {xs = xs} {ys = ys} w ws) =
+    let r = tick-mirror h k w in
+    each_more (agree r) (calls-mirror {a = a} {a' = a'} {f = (tick_of a f x).flight} {f' = (tick_of a' f' y).flight} {ts = xs} {ts' = ys} h r.flight ws)
 
 -- progress that is mirrored
 record ProgressRel (p p' : Progress) : Type 0 where
@@ -75,7 +77,8 @@ run-from-mirror : {a a' : Airframe} {p p' : Progress} {ts ts' : List Tick} → A
     → ProgressRel (run_from a p ts) (run_from a' p' ts')
 unfolding run_from
 run-from-mirror h k each_none = k
-run-from-mirror h k (each_more w ws) = run-from-mirror h (progressed-mirror h k w) ws
+run-from-mirror {a = a} {a' = a'} {p = p} {p' = p'} h k (each_more {x = x} {y = y} {xs = xs} {ys = ys} w ws) =
+    run-from-mirror {a = a} {a' = a'} {p = progressed a p x} {p' = progressed a' p' y} {ts = xs} {ts' = ys} h (progressed-mirror h k w) ws
 
 pub run-mirror : {a a' : Airframe} {f f' : Flight} {ts ts' : List Tick} → AirframeRel a a' → FlightRel f f' → Each TickRel ts ts'
     → FlightRel (run_of a f ts).flight (run_of a' f' ts').flight × ((run_of a' f' ts').accepted ≡ (run_of a f ts).accepted)

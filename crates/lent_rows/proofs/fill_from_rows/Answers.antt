@@ -12,7 +12,7 @@ unfolding mix_of
 returns c = 
     let s = c in
     let rows = s.args.rows in
-    let long : length rows.rows ≡ 16 = ? in
+    let long : length rows.rows ≡ 16 = search rules in
     let l = s.args.layout in
     let tau = s.args.time_constant_s in
     let l' = s.args.lift_layout in

@@ -81,7 +81,7 @@ loop-i-preserved c =
       search rules,
       search rules,
       s.loop-i.invariant.2,
-      progress a.a p _ t.tick_at-t.result k.tick_inside-done.result n.result t.tick_at-t.ensures k.tick_inside-done.ensures n.ensures.0
+      progress a.a p _ t.tick_at-t.result k.tick_inside-done.result n.result t.tick_at-t.ensures k.tick_inside-done.ensures n.ensures.fact_1
           ∙ ap (λ (q : Progress). on q (tick_at a.trace.now i)) s.loop-i.invariant.3
           ∙ after_more on start a.trace.now i,
       ap (λ (x : TickResult). is_inside x.flight) k.tick_inside-done.ensures

@@ -15,17 +15,6 @@ use Rattle.run.specs.Promises.{track_result}
 use Rattle.run.specs.Run.{run_result_of, run_result_over}
 use Rattle.run.proofs.mirrored_pair.Goals as goal
 
--- what owning the state tells: the running values of its motors and lift rotors are 32-bit floats
-held : (c : goal.Start) → Representable c.args.f
-held c = record {
-  motors = record { motor = λ k l. field-representable c.args.f.motors _ k c.well_formed.1.0.1.1.1.1.1.1.1.1.1.1.1.1.1.1.1.0.1.1 };
-  lift =
-      record {
-        motor = λ k l. field-representable c.args.f.lift_motors _ k
-            c.well_formed.1.0.1.1.1.1.1.1.1.1.1.1.1.1.1.1.1.1.1.1.0.1.1;
-      };
-}
-
 pub returns : goal.returns
 unfolding track_result run_result_of
 returns c = 
@@ -34,6 +23,11 @@ returns c =
     let s = a.trace.now in
     let ts = ticks_of s in
     let bytes : Bytes s = λ i. omega (arith, k.shared_slice_known-1.given i) in
+    -- what owning the state tells: the running values of its motors and lift rotors are 32-bit floats
+    let held : Representable a.f = record {
+      motors = record { motor = λ k l. field-representable a.f.motors _ k c.well_formed.1.0.1.1.1.1.1.1.1.1.1.1.1.1.1.1.1.0.1 };
+      lift = record { motor = λ k l. field-representable a.f.lift_motors _ k c.well_formed.1.0.1.1.1.1.1.1.1.1.1.1.1.1.1.1.1.1.1.1.0.1 };
+    } in
     let second : c.run_track-second.result ≡ run_result_over (reflect_airframe a.a) (reflect_flight a.f) s (map reflect_tick ts) = c.run_track-second.ensures
     ∙ rw (c.reflected.ensures, c.reflected-2.ensures, reflected-track ts) in
     let first : c.run_track-first.result ≡ run_result_over a.a a.f s ts = c.run_track-first.ensures
@@ -43,5 +37,5 @@ returns c =
       second = second ∙ sym (reflected-run (reflect_airframe a.a) (reflect_flight a.f) s bytes);
       ticks = reflected-ticks s bytes;
       ends = rw (first, second) (ran-mirror a.a a.f s ts);
-      demand3 = demand3 a.a a.f (held k.before);
+      demand3 = demand3 a.a a.f held;
     }
