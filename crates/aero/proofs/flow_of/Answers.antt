@@ -1,5 +1,4 @@
 -- `aero::flow_of` meets its contract. Assumes nothing.
-use borrow.Author.Rules.{rules}
 use Rattle.aero.specs.Wrench.{flow_at, flow_of}
 use Rattle.aero.proofs.flow_of.Goals as goal
 

@@ -1,6 +1,5 @@
 -- `aero::moving` meets its contract. Assumes nothing.
 use lib.Ieee.{of_bits, round}
-use borrow.Author.Rules.{rules}
 use Rattle.aero.specs.Wrench.{moving_at, moving_of, surface_free, torque_at}
 use Rattle.aero.proofs.moving.Goals as goal
 

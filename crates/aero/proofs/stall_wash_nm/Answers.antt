@@ -1,6 +1,5 @@
 -- `aero::stall_wash_nm` meets its contract. Assumes nothing.
 use lib.Ieee.{of_bits}
-use borrow.Author.Rules.{rules}
 use Rattle.aero.specs.Wrench.{stall_share, stall_wash}
 use Rattle.aero.proofs.stall_wash_nm.Goals as goal
 

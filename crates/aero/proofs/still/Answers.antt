@@ -1,6 +1,5 @@
 -- `aero::still` meets its contract. Assumes nothing.
 use lib.Ieee.{of_bits}
-use borrow.Author.Rules.{rules}
 use Rattle.aero.specs.Wrench.{still_of}
 use Rattle.aero.proofs.still.Goals as goal
 

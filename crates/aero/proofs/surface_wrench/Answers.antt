@@ -1,6 +1,5 @@
 -- `aero::surface_wrench` meets its contract. Assumes nothing.
 use lib.Ieee.{of_bits}
-use borrow.Author.Rules.{rules}
 use Rattle.aero.specs.Wrench.{aileron_moment, elevator_and_rudder, surface_wrench}
 use Rattle.aero.proofs.surface_wrench.Goals as goal
 

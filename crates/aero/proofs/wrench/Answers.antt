@@ -1,6 +1,5 @@
 -- `aero::wrench` meets its contract. Assumes nothing.
 use lib.Ieee.{of_bits}
-use borrow.Author.Rules.{rules}
 use Rattle.aero.specs.Wrench.{aero_wrench}
 use Rattle.aero.proofs.wrench.Goals as goal
 

@@ -2,7 +2,6 @@
 use Prim.Native.Nat.{◌+◌, suc, ℕ}
 use lib.Ieee.{of_bits, round}
 use mathlib.Core.Path.{◌≡◌}
-use borrow.Author.Rules.{rules}
 use native.Mathlib.Omega.{arith}
 use Rattle.air.specs.Density.{between, density_of}
 use Rattle.air.proofs.between.Goals as goal

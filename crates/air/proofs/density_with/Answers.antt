@@ -4,7 +4,6 @@ use lib.Ieee.{le, neg, of_bits, of_int, round}
 use lib.Ieee.Compare.{differs_from_itself}
 use mathlib.Core.Bool.{Bool, false, not, true}
 use mathlib.Core.Path.{◌∙◌, ◌≡◌, ap, subst, sym}
-use borrow.Author.Rules.{rules}
 use Rattle.float.proofs.Order.{same_number}
 use Rattle.air.proofs.Range.{density-nan}
 use Rattle.air.proofs.Rows.{between_ends}

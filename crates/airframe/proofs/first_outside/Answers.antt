@@ -1,11 +1,8 @@
 -- `airframe::first_outside` meets its contract. The invariant: the search from the start is the search from here. Assumes nothing.
-use Prim.Native.Nat.{◌+◌, ◌-◌, ◌≤◌}
-use mathlib.Core.Path.{◌∙◌, ◌≡◌, sym}
+use mathlib.Core.Path.{◌∙◌, sym}
 use borrow.Author.Rules.{rules}
 use Rattle.ordered.proofs.Ordered.{fail-end, fail-here, fail-next, from_start, not-false, not-true, pass-none}
-use Rattle.ordered.specs.Ordered.{first_fail}
 use Rattle.airframe.specs.Acceptance.{inside_from, number_inside}
-use Rattle.airframe.specs.Numbers.{numbers_count}
 use Rattle.airframe.proofs.first_outside.Goals as goal
 
 pub returns-then-numbers_inside-clause-fact_1 : goal.returns-then-numbers_inside-clause-fact_1

@@ -5,8 +5,7 @@ use native.Mathlib.Nat.{le_antisymm}
 use Rattle.ordered.specs.Ordered.{all_pass}
 use Rattle.ordered.proofs.Ordered.{pass-more}
 use borrow.Author.Rules.{rules}
-use mathlib.Core.Path.{◌∙◌, ◌≡◌, ap, refl}
-use Prim.Native.Nat.{◌-◌, ◌≤◌}
+use mathlib.Core.Path.{◌∙◌, ap, refl}
 use Rattle.airframe.proofs.vectors_inside.Goals as goal
 
 pub loop-i-init : goal.loop-i-init

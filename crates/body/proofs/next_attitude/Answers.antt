@@ -1,5 +1,4 @@
 -- `body::next_attitude` meets its contract. Assumes nothing.
-use borrow.Author.Rules.{rules}
 use Rattle.body.specs.Motion.{next_attitude}
 use Rattle.body.proofs.next_attitude.Goals as goal
 

@@ -1,7 +1,6 @@
 -- `flight::attitude_outside` meets its contract. Assumes nothing.
 use lib.Ieee.{of_bits, round}
 use borrow.Author.Rules.{rules}
-use Rattle.mixers.specs.Slots.{at}
 use Rattle.flight.specs.Envelope.{attitude_outside}
 use Rattle.flight.proofs.attitude_outside.Goals as goal
 

@@ -1,11 +1,9 @@
 -- `flight::slots_outside` meets its contract. Assumes nothing.
 use Rattle.flight.specs.Envelope.{slot_inside, slots_outside}
-use Rattle.ordered.specs.Ordered.{first_fail}
 use Rattle.ordered.proofs.Ordered.{fail-end, fail-here, fail-next, not-false, not-true, pass-none}
 use borrow.Author.Rules.{rules}
 use native.Mathlib.Omega.{arith}
-use mathlib.Core.Path.{◌∙◌, ◌≡◌, refl, sym}
-use Prim.Native.Nat.{◌-◌, ◌≤◌}
+use mathlib.Core.Path.{◌∙◌, refl, sym}
 use Rattle.flight.proofs.slots_outside.Goals as goal
 
 pub returns-then-slots_inside-clause-fact_1 : goal.returns-then-slots_inside-clause-fact_1

@@ -1,6 +1,5 @@
 -- `flight::vec_outside` meets its contract. Assumes nothing.
 use borrow.Author.Rules.{rules}
-use Rattle.mixers.specs.Slots.{at}
 use Rattle.flight.specs.Envelope.{vec_outside}
 use Rattle.flight.proofs.vec_outside.Goals as goal
 

@@ -2,7 +2,6 @@
 use lib.Ieee.{eq, of_bits}
 use mathlib.Core.Bool.{false, true}
 use mathlib.Core.Path.{◌≡◌}
-use borrow.Author.Rules.{rules}
 use Rattle.float.specs.Notation.{two}
 use Rattle.motors.specs.Motor.{thrust_fraction}
 use Rattle.motors.proofs.thrust_fraction.Goals as goal

@@ -1,6 +1,5 @@
 -- `surfaces::factors_of` meets its contract: after i iterations the first i rows are put. Assumes nothing.
-use Prim.Native.Nat.{◌-◌, ◌≤◌}
-use mathlib.Core.Path.{◌∙◌, ◌≡◌, ap}
+use mathlib.Core.Path.{◌∙◌, ap}
 use native.Mathlib.Nat.{le_antisymm}
 use borrow.Author.Rules.{rules}
 use Rattle.mixers.proofs.Putting.{put-more}

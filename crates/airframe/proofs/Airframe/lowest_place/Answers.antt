@@ -1,6 +1,5 @@
 -- `airframe::Airframe::lowest_place` meets its contract. Assumes nothing.
 use Rattle.airframe.specs.Acceptance.{lowest_place}
-use borrow.Author.Rules.{rules}
 use Rattle.airframe.proofs.Airframe.lowest_place.Goals as goal
 
 pub returns : goal.returns

@@ -1,6 +1,5 @@
 -- `airframe::Airframe::zero` meets its contract. Assumes nothing.
 use lib.Ieee.{of_bits}
-use borrow.Author.Rules.{rules}
 use Rattle.airframe.specs.FromNumbers.{zero_airframe}
 use Rattle.airframe.proofs.Airframe.zero.Goals as goal
 

@@ -1,5 +1,4 @@
 -- `body::Body::reflected` meets its contract. Assumes nothing.
-use borrow.Author.Rules.{rules}
 use Rattle.body.specs.Reflection.{reflect_body}
 use Rattle.body.proofs.Body.reflected.Goals as goal
 

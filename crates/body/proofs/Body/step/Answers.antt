@@ -1,5 +1,4 @@
 -- `body::Body::step` meets its contract. Assumes nothing.
-use borrow.Author.Rules.{rules}
 use Rattle.body.specs.Motion.{next_position, next_velocity, step_of}
 use Rattle.body.proofs.Body.step.Goals as goal
 

@@ -1,7 +1,6 @@
 -- `flight::Flight::outside` meets its contract. Assumes nothing.
 use lib.Ieee.{neg, of_bits, round}
 use Rattle.flight.specs.Envelope.{outside_of}
-use borrow.Author.Rules.{rules}
 use Rattle.flight.proofs.Flight.outside.Goals as goal
 
 pub returns : goal.returns

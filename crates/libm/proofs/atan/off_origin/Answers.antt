@@ -1,5 +1,4 @@
 -- `libm::atan::off_origin` meets its contract. Assumes nothing.
-use borrow.Author.Rules.{rules}
 use Rattle.libm.specs.Atan.{off_origin}
 use Rattle.libm.proofs.atan.off_origin.Goals as goal
 

@@ -3,7 +3,6 @@ use lib.Dec.{T}
 use lib.Ieee.{nan_bits, neg, of_bits, round}
 use lib.IntN.{ℤ}
 use mathlib.Core.Path.{◌∙◌, ap, subst, sym}
-use borrow.Author.Rules.{rules}
 use lib.Ieee.Compare.{differs_from_itself}
 use mir.Syntax.{w64}
 use mir.ValLaws.{to_z-of_z}

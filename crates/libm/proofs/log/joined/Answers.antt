@@ -3,7 +3,6 @@ use lib.Dec.{T}
 use lib.Ieee.{binary32, in_float, of_bits, round}
 use lib.IntN.{ℤ}
 use mathlib.Core.Path.{subst, sym}
-use borrow.Author.Rules.{rules}
 use mir.Syntax.{w64}
 use mir.ValLaws.{to_z-of_z}
 use Rattle.libm.proofs.Splits.{binary-in-float}

@@ -8,7 +8,6 @@ use lib.Ieee.Fits.{of_int-fits}
 use lib.IntN.{◌-ℤ◌, pos, ℤ}
 use mathlib.Core.Path.{◌∙◌, ◌≡◌, ap, subst, sym}
 use native.Mathlib.Omega.{arith}
-use borrow.Author.Rules.{rules}
 use mir.Syntax.{w64}
 use mir.Val.{SFits, of_z, to_z}
 use mir.ValLaws.{to_z-of_z}

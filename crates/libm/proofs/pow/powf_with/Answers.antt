@@ -2,7 +2,6 @@
 use lib.Ieee.{of_bits}
 use mathlib.Core.Bool.{false, true}
 use mathlib.Core.Path.{◌∙◌, ◌≡◌, sym}
-use borrow.Author.Rules.{rules}
 use Rattle.float.proofs.Patterns.{zero_by_zero}
 use Rattle.float.specs.Interval.{inside}
 use Rattle.float.specs.Notation.{zero, one}

@@ -1,10 +1,8 @@
 -- `libm::sqrt::scaled` meets its contract: s with j / 2 pairs of zeros after it is the number, and its root is near's with j / 2 zeros. Assumes nothing.
 use Prim.Native.Nat.{◌*◌, ◌+◌, ◌/◌, ◌^◌, ◌≤◌, ℕ}
 use lib.Ieee.{binary32}
-use mathlib.Core.Logic.{⊎_elim}
 use mathlib.Core.Path.{◌∙◌, ◌≡◌, ap, sym}
 use native.Mathlib.Omega.{arith}
-use borrow.Author.Rules.{rules}
 use Rattle.float.proofs.Patterns.{not-nan-pattern}
 use Rattle.libm.proofs.RootValues.{even-part, odd_part, units-pattern}
 use Rattle.libm.proofs.Roots.{scaled-root}

@@ -1,6 +1,5 @@
 -- `libm::trig::cosf` meets its contract: within size 4 the quarter turns as a float are the definition's. Assumes nothing.
 use lib.Ieee.{div, neg, of_bits, round}
-use borrow.Author.Rules.{rules}
 use Rattle.libm.proofs.Quarters.{cos-held}
 use Rattle.libm.specs.Trig.{cos_of}
 use Rattle.libm.proofs.trig.cosf.Goals as goal

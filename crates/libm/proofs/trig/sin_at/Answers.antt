@@ -1,6 +1,5 @@
 -- `libm::trig::sin_at` meets its contract: it goes through the definition's tests in their order. Assumes nothing.
 use lib.Ieee.{neg, of_bits, round}
-use borrow.Author.Rules.{rules}
 use Rattle.libm.specs.Promises.{by_quarters, sin_by}
 use Rattle.libm.proofs.trig.sin_at.Goals as goal
 

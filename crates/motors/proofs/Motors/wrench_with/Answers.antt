@@ -1,5 +1,4 @@
 -- `motors::Motors::wrench_with` meets its contract. Assumes nothing.
-use Prim.Native.Nat.{◌-◌, ◌≤◌}
 use lib.Ieee.{of_bits}
 use mathlib.Core.Path.{◌∙◌, ◌≡◌, ap, refl}
 use native.Mathlib.Nat.{le_antisymm}
@@ -8,7 +7,6 @@ use Rattle.mixers.proofs.Slots.{sum_more, vec-sum-more}
 use Rattle.mixers.specs.Slots.{sum_to, vec_at, vec_sum_to}
 use Rattle.vector.specs.Vector.{scale_of}
 use Rattle.motors.specs.Motor.{falloff_at, slot_thrust, slot_torque, wrench_by, wrench_with}
-use Rattle.motors.specs.declared.Motors.{Motors}
 use Rattle.motors.proofs.Motors.wrench_with.Goals as goal
 
 pub loop-i-init : goal.loop-i-init

@@ -1,7 +1,6 @@
 -- `quadplane_model::LiftRotors::wrench` meets its contract. Assumes nothing.
 use lib.Ieee.{of_bits}
 use Rattle.quadplane_model.specs.Lift.{lift_by, lift_force, lift_wrench}
-use borrow.Author.Rules.{rules}
 use Rattle.quadplane_model.proofs.LiftRotors.wrench.Goals as goal
 
 pub returns : goal.returns

@@ -1,5 +1,4 @@
 -- `surfaces::Surfaces::deflection_rad` meets its contract: after i iterations the sum is that of the first i slots. Assumes nothing.
-use Prim.Native.Nat.{◌-◌, ◌≤◌}
 use mathlib.Core.Path.{◌≡◌}
 use native.Mathlib.Nat.{le_antisymm}
 use borrow.Author.Rules.{rules}

@@ -1,6 +1,5 @@
 -- `tailsitter_model::PropWash::wash` meets its contract. Assumes nothing.
 use lib.Ieee.{of_bits}
-use borrow.Author.Rules.{rules}
 use Rattle.tailsitter_model.specs.Slipstream.{flow_mps, wash_by_pressure, wash_of}
 use Rattle.tailsitter_model.proofs.PropWash.wash.Goals as goal
 

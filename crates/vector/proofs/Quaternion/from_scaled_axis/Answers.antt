@@ -1,6 +1,5 @@
 -- `vector::Quaternion::from_scaled_axis` meets its contract: the norm is the root of the squared norm that was tested. Assumes nothing.
 use lib.Ieee.{of_bits, round}
-use borrow.Author.Rules.{rules}
 use Rattle.vector.specs.Rotation.{from_half_axis, from_scaled_axis}
 use Rattle.vector.specs.Vector.{norm_of}
 use Rattle.vector.proofs.Quaternion.from_scaled_axis.Goals as goal

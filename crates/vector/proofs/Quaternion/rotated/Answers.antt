@@ -1,6 +1,5 @@
 -- `vector::Quaternion::rotated` meets its contract. Assumes nothing.
 use lib.Ieee.{of_bits}
-use borrow.Author.Rules.{rules}
 use Rattle.vector.specs.Rotation.{rotated, twist}
 use Rattle.vector.proofs.Quaternion.rotated.Goals as goal
 
