@@ -117,8 +117,8 @@ fn row_height(row: u32) -> f32
 // The density at a height between the table's ends, by the highest row that is not above it. The sum and the quotient are rounded, so
 // that the first guess may be one row too high.
 fn within_table(height_m: f32, densities: &[f32; ROW_COUNT]) -> f32
-    requires fact_1 { Promises.Inside height_m }
-    requires fact_2 { densities.now ≡ Density.densities }
+    requires height_inside { Promises.Inside height_m }
+    requires densities_table { densities.now ≡ Density.densities }
     ensures { result ≡ Density.between (Density.row_down_from Density.last_row height_m) height_m }
 {
     let guess = float::truncated((height_m + 1000.0) / 100.0) as u32;
@@ -131,9 +131,9 @@ fn within_table(height_m: f32, densities: &[f32; ROW_COUNT]) -> f32
 
 // Between a row, which is at `row_m`, and the next.
 fn between(row: u32, row_m: f32, height_m: f32, densities: &[f32; ROW_COUNT]) -> f32
-    requires fact_1 { row < Density.last_row }
-    requires fact_2 { row_m ≡ Density.height_of row }
-    requires fact_3 { densities.now ≡ Density.densities }
+    requires row_below_last { row < Density.last_row }
+    requires row_height { row_m ≡ Density.height_of row }
+    requires densities_table { densities.now ≡ Density.densities }
     ensures { result ≡ Density.between row height_m }
 {
     let at = row as usize;

@@ -245,8 +245,8 @@ fn first_outside(
     count: usize,
 ) -> u32
     requires { first + count ≤ Numbers.numbers_count }
-    ensures fact_1 { result ≡ first_fail (Acceptance.inside_from limits numbers.now first) 0 count }
-    ensures fact_2 { result ≤ Numbers.numbers_count }
+    ensures value { result ≡ first_fail (Acceptance.inside_from limits numbers.now first) 0 count }
+    ensures upper_bound { result ≤ Numbers.numbers_count }
 {
     if numbers_inside(numbers, limits, first, count) {
         return 0;
@@ -264,9 +264,9 @@ fn first_outside(
 
 // The lowest place of a segment whose number is outside its limits; 0 for none, and where the segment is absent.
 fn segment_outside(numbers: &[f32; NUMBERS], limits: [Limits; NUMBERS], s: Segment) -> u32
-    requires fact_1 { s.first + s.count ≤ Numbers.numbers_count }
-    requires fact_2 { 1 ≤ s.place }
-    requires fact_3 { s.place ≤ 1000 }
+    requires numbers_within { s.first + s.count ≤ Numbers.numbers_count }
+    requires place_lower_bound { 1 ≤ s.place }
+    requires place_upper_bound { s.place ≤ 1000 }
     ensures { result ≡ Acceptance.segment_outside limits numbers.now s }
 {
     if s.present {

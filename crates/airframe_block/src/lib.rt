@@ -70,8 +70,8 @@ fn header_of(a: u8, b: u8) -> Header
 // How many bytes a segment of the numbers has.
 fn segment_bytes(x: Segment) -> usize
     requires { x.count ≤ Numbers.numbers_count }
-    ensures fact_1 { result ≡ Block.segment_bytes x }
-    ensures fact_2 { result ≤ number_bytes * x.count }
+    ensures value { result ≡ Block.segment_bytes x }
+    ensures upper_bound { result ≤ number_bytes * x.count }
 {
     if x.present {
         return block_parts::NUMBER_BYTES * x.count;
@@ -82,8 +82,8 @@ fn segment_bytes(x: Segment) -> usize
 impl Header {
     // Where the rows begin.
     fn rows_at(self) -> usize
-        ensures fact_1 { result ≡ Block.rows_at self }
-        ensures fact_2 { result ≤ Block.header_bytes + number_bytes * Numbers.numbers_count }
+        ensures value { result ≡ Block.rows_at self }
+        ensures upper_bound { result ≤ Block.header_bytes + number_bytes * Numbers.numbers_count }
     {
         let base = segment_bytes(Segment::base());
         let wash = segment_bytes(Segment::wash(self.wash));
@@ -132,8 +132,8 @@ pub fn announced_of(a: u8, b: u8) -> Announced
 
 // The numbers of a segment that is there, from byte `at` on, into xs.
 fn read_segment(s: &[u8], at: usize, xs: [f32; NUMBERS], x: Segment) -> [f32; NUMBERS]
-    requires fact_1 { x.first + x.count ≤ Numbers.numbers_count }
-    requires fact_2 { at + Block.segment_bytes x ≤ length s.now }
+    requires numbers_within { x.first + x.count ≤ Numbers.numbers_count }
+    requires bytes_within { at + Block.segment_bytes x ≤ length s.now }
     ensures { result ≡ Block.put_segment s.now at xs x }
 {
     if x.present {
@@ -149,8 +149,8 @@ fn read_present(
     first: usize,
     count: usize,
 ) -> [f32; NUMBERS]
-    requires fact_1 { first + count ≤ Numbers.numbers_count }
-    requires fact_2 { at + number_bytes * count ≤ length s.now }
+    requires numbers_within { first + count ≤ Numbers.numbers_count }
+    requires bytes_within { at + number_bytes * count ≤ length s.now }
     ensures { result ≡ Block.put_numbers s.now at xs first count }
 {
     let mut out = xs;
@@ -210,8 +210,8 @@ fn read_row(s: &[u8], i: usize) -> MixRow
 
 // The `count` rows that stand at `start`.
 fn read_rows(s: &[u8], start: usize, count: usize) -> Rows
-    requires fact_1 { count ≤ most_rows }
-    requires fact_2 { start + Block.row_bytes * count ≤ length s.now }
+    requires rows_bound { count ≤ most_rows }
+    requires bytes_within { start + Block.row_bytes * count ≤ length s.now }
     ensures { result ≡ Block.rows_from s.now start count }
 {
     let empty = MixRow {
@@ -247,8 +247,8 @@ fn bits_clear(b: u8, lift: bool) -> bool
 
 // The first of the `count` rows at `start` with a bit set that must be 0, counted from 1; 0 for none.
 fn reserved_row(s: &[u8], lift: bool, start: usize, count: usize) -> usize
-    requires fact_1 { count ≤ most_rows }
-    requires fact_2 { start + Block.row_bytes * count ≤ length s.now }
+    requires rows_bound { count ≤ most_rows }
+    requires bytes_within { start + Block.row_bytes * count ≤ length s.now }
     ensures { result ≡ Block.reserved_row s.now lift start count }
 {
     let mut k = 0usize;
@@ -341,8 +341,8 @@ fn tested(airframe: Airframe, rows: Rows) -> AirframeRead
 
 // The block of header `h`, whose length is right: reserved bits of the rows, then the numbers.
 fn read_body(s: &[u8], h: Header) -> AirframeRead
-    requires fact_1 { h.rows ≤ most_rows }
-    requires fact_2 { Block.bytes_of h ≤ length s.now }
+    requires rows_bound { h.rows ≤ most_rows }
+    requires bytes_within { Block.bytes_of h ≤ length s.now }
     ensures { result ≡ Block.read_body s.now h }
 {
     let start = h.rows_at();

@@ -455,8 +455,8 @@ fn used_number(group: MotorGroup, k: usize) -> f32
 
 // Number k of the airframe's array, of those of the lift rotors.
 fn lift_number(a: Airframe, k: usize) -> f32
-    requires fact_1 { AirframeArray.lift_numbers_at ≤ k }
-    requires fact_2 { k < AirframeArray.airframe_numbers_count }
+    requires lower_bound { AirframeArray.lift_numbers_at ≤ k }
+    requires upper_bound { k < AirframeArray.airframe_numbers_count }
     ensures { result ≡ AirframeArray.lift_number a k }
 {
     let lift = a.lift;

@@ -249,8 +249,8 @@ fn store_if_accepted(state: &mut [f32], done: TickResult)
 
 // What a tick gave, into the caller's arrays.
 fn handed_back(done: TickResult, state: &mut [f32], report: &mut [f32]) -> u64
-    requires fact_1 { length state.old ≡ state_numbers_count }
-    requires fact_2 { length report.old ≡ Library.report_numbers_count }
+    requires state_length { length state.old ≡ state_numbers_count }
+    requires report_length { length report.old ≡ Library.report_numbers_count }
     ensures { let o = Library.tested state.old done in
         (result ≡ o.reply) × (state.new ≡ o.state) × (report.new ≡ o.report) }
 {

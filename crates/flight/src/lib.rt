@@ -194,8 +194,8 @@ impl Flight {
 
 // 1 where the attitude's N lies outside 0.9..1.1, else 0.
 fn attitude_outside(attitude: Quaternion) -> u32
-    ensures fact_1 { result ≡ Envelope.attitude_outside attitude }
-    ensures fact_2 { result ≤ 1 }
+    ensures value { result ≡ Envelope.attitude_outside attitude }
+    ensures upper_bound { result ≤ 1 }
 {
     if float::inside(attitude.norm_squared(), MIN_NORM_SQUARED, MAX_NORM_SQUARED) {
         return 0;
@@ -205,8 +205,8 @@ fn attitude_outside(attitude: Quaternion) -> u32
 
 // Which component is larger in size than `limit`, counted from 1; 0 for none.
 fn vec_outside(v: Vec3, limit: f32) -> u32
-    ensures fact_1 { result ≡ Envelope.vec_outside limit v }
-    ensures fact_2 { result ≤ 3 }
+    ensures value { result ≡ Envelope.vec_outside limit v }
+    ensures upper_bound { result ≤ 3 }
 {
     if float::inside(v.x, -limit, limit) {
         if float::inside(v.y, -limit, limit) {
@@ -235,8 +235,8 @@ fn slots_inside(values: [f32; 8], low: f32, high: f32) -> bool
 
 // Which slot's value lies outside low..high, counted from 1; 0 for none.
 fn slots_outside(values: [f32; 8], low: f32, high: f32) -> u32
-    ensures fact_1 { result ≡ Envelope.slots_outside low high values }
-    ensures fact_2 { result ≤ 8 }
+    ensures value { result ≡ Envelope.slots_outside low high values }
+    ensures upper_bound { result ≤ 8 }
 {
     if slots_inside(values, low, high) {
         return 0;

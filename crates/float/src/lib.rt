@@ -65,10 +65,10 @@ pub fn write(s: &mut [u8], i: usize, x: f32)
 
 // x without its fraction, for an x below 2^24 in size.
 pub fn truncated(x: f32) -> i64
-    requires fact_1 { T (Ieee.lt (fin true 1 (pos 24)) x) }
-    requires fact_2 { T (Ieee.lt x (fin false 1 (pos 24))) }
-    ensures fact_1 { result ≡ Ieee.to_signed 63 x }
-    ensures fact_2 { T (Ieee.in_float binary32 result) }
+    requires lower_bound { T (Ieee.lt (fin true 1 (pos 24)) x) }
+    requires upper_bound { T (Ieee.lt x (fin false 1 (pos 24))) }
+    ensures value { result ≡ Ieee.to_signed 63 x }
+    ensures exact { T (Ieee.in_float binary32 result) }
 {
     std::num::truncating_f32_to_i64(x)
 }

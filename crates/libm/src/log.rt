@@ -16,8 +16,8 @@ struct Split {
 // much. So what b is above 3F3504F3, the pattern of 0.70710677, is n times 2^23 and a rest, by which the mantissa's is above it; 127 times
 // 2^23 more, the pattern of 1, keeps the difference above 0.
 fn mantissa_and_exponent(b: u32) -> Split
-    requires fact_1 { 0x80_0000 ≤ b }
-    requires fact_2 { b < 0x7f80_0000 }
+    requires normal { 0x80_0000 ≤ b }
+    requires finite { b < 0x7f80_0000 }
     ensures { Promises.SplitOf (Ieee.of_bits binary32 b) result.mantissa result.exponent }
 {
     let above = b + 0x3f80_0000 - 0x3f35_04f3;
@@ -46,8 +46,8 @@ fn joined(m: f32, n: i64) -> f32
 
 // ln of the positive number with the pattern b. Below the normal range that number is b times 2^-149.
 fn positive(b: u32) -> f32
-    requires fact_1 { 0 < b }
-    requires fact_2 { b < 0x7f80_0000 }
+    requires above_zero { 0 < b }
+    requires finite { b < 0x7f80_0000 }
     ensures { result ≡ Log.ln_of (Ieee.of_bits binary32 b) }
 {
     if b < 0x80_0000 {

@@ -273,8 +273,8 @@ pub fn powers_of_two() -> [f32; POWER_COUNT]
 
 // 2^k.
 pub fn power_of_two(k: i64, powers: &[f32; POWER_COUNT]) -> f32
-    requires fact_1 { Promises.Exponent k }
-    requires fact_2 { powers.now ≡ Powers.powers_of_two }
+    requires exponent_in { Promises.Exponent k }
+    requires powers_table { powers.now ≡ Powers.powers_of_two }
     ensures { result ≡ fin false 1 k }
 {
     powers[(k + 126) as usize]

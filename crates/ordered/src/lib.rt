@@ -20,8 +20,8 @@ pub fn or_else(first: u32, second: u32) -> u32
 
 // The number of a row's failed test, or 0, counted on from the `count` tests before it.
 pub fn after(count: u32, failed: u32) -> u32
-    requires fact_1 { count ≤ 1000 }
-    requires fact_2 { failed ≤ 1000 }
+    requires count_bound { count ≤ 1000 }
+    requires failed_bound { failed ≤ 1000 }
     ensures { result ≡ Ordered.after count failed }
 {
     if failed == 0 { 0 } else { count + failed }

@@ -73,8 +73,8 @@ fn ended(answer: Answer, flight: Flight, accepted: u64) -> RunResult
 // The ticks one after the other, of an airframe and a state that are accepted: neither is tested again, since each state that is
 // kept was tested as the next one.
 fn fly_all(a: Airframe, f: Flight, trace: &[u8], reflect: bool) -> RunResult
-    requires fact_1 { refused_place a ≡ 0 }
-    requires fact_2 { is_inside f ≡ true }
+    requires airframe_accepted { refused_place a ≡ 0 }
+    requires state_inside { is_inside f ≡ true }
     ensures { result ≡ Promises.track_flown reflect a f trace.now }
 {
     let count = trace::tick_count(trace);
@@ -110,8 +110,8 @@ fn tick_at(trace: &[u8], i: usize, reflect: bool) -> Tick
 }
 
 fn one_if_done(answer: Answer) -> u64
-    ensures fact_1 { result ≡ Run.one_if_done answer }
-    ensures fact_2 { result ≤ 1 }
+    ensures value { result ≡ Run.one_if_done answer }
+    ensures upper_bound { result ≤ 1 }
 {
     if answer.is_done() { 1 } else { 0 }
 }

@@ -81,10 +81,10 @@ pub fn tick_accepted(
     powers: &[f32; POWER_COUNT],
     densities: &[f32; ROW_COUNT],
 ) -> TickResult
-    requires fact_1 { refused_place a ≡ 0 }
-    requires fact_2 { lags ≡ Promises.begin_of a t.step_s }
-    requires fact_3 { powers.now ≡ powers_of_two }
-    requires fact_4 { densities.now ≡ Density.densities }
+    requires airframe_accepted { refused_place a ≡ 0 }
+    requires lags_match { lags ≡ Promises.begin_of a t.step_s }
+    requires powers_table { powers.now ≡ powers_of_two }
+    requires densities_table { densities.now ≡ Density.densities }
     ensures { result ≡ TickOf.tick_of a f t }
 {
     if f.is_inside() {
@@ -102,11 +102,11 @@ pub fn tick_inside(
     powers: &[f32; POWER_COUNT],
     densities: &[f32; ROW_COUNT],
 ) -> TickResult
-    requires fact_1 { refused_place a ≡ 0 }
-    requires fact_2 { is_inside f ≡ true }
-    requires fact_3 { lags ≡ Promises.begin_of a t.step_s }
-    requires fact_4 { powers.now ≡ powers_of_two }
-    requires fact_5 { densities.now ≡ Density.densities }
+    requires airframe_accepted { refused_place a ≡ 0 }
+    requires state_inside { is_inside f ≡ true }
+    requires lags_match { lags ≡ Promises.begin_of a t.step_s }
+    requires powers_table { powers.now ≡ powers_of_two }
+    requires densities_table { densities.now ≡ Density.densities }
     ensures { result ≡ TickOf.tick_of a f t }
 {
     if float::inside(t.step_s, 0.0009765625, 0.02) {
@@ -191,10 +191,10 @@ pub fn cached_lag_factors(
     step_s: f32,
     powers: &[f32; POWER_COUNT],
 ) -> LagFactors
-    requires fact_1 { Promises.FactorsMatchStep a held }
-    requires fact_2 { powers.now ≡ powers_of_two }
-    ensures fact_1 { result ≡ Promises.begin_of a step_s }
-    ensures fact_2 { Promises.FactorsMatchStep a result }
+    requires held_match { Promises.FactorsMatchStep a held }
+    requires powers_table { powers.now ≡ powers_of_two }
+    ensures value { result ≡ Promises.begin_of a step_s }
+    ensures matches_step { Promises.FactorsMatchStep a result }
 {
     if float::to_bits(step_s) == held.step_bits {
         return held;
@@ -211,9 +211,9 @@ fn next_with(
     powers: &[f32; POWER_COUNT],
     densities: &[f32; ROW_COUNT],
 ) -> TickResult
-    requires fact_1 { lags ≡ Promises.begin_of a t.step_s }
-    requires fact_2 { powers.now ≡ powers_of_two }
-    requires fact_3 { densities.now ≡ Density.densities }
+    requires lags_match { lags ≡ Promises.begin_of a t.step_s }
+    requires powers_table { powers.now ≡ powers_of_two }
+    requires densities_table { densities.now ≡ Density.densities }
     ensures { result ≡ TickOf.next_of a f t }
 {
     let commands = t.motors;

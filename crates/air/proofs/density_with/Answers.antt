@@ -37,11 +37,11 @@ returns-then-height_m-3 c =
     let nan_is = differs_from_itself c.args.height_m (subst T (sym c.if-height_m-3.true) tt) in
     nan_is ∙ sym density-nan ∙ ap density_at (sym nan_is)
 
-pub within_table-requires-clause-fact_1 : goal.within_table-requires-clause-fact_1
-within_table-requires-clause-fact_1 c = past-tests c
+pub within_table-requires-clause-height_inside : goal.within_table-requires-clause-height_inside
+within_table-requires-clause-height_inside c = past-tests c
 
-pub within_table-requires-clause-fact_2 : goal.within_table-requires-clause-fact_2
-within_table-requires-clause-fact_2 c = c.requires
+pub within_table-requires-clause-densities_table : goal.within_table-requires-clause-densities_table
+within_table-requires-clause-densities_table c = c.requires
 
 pub returns : goal.returns
 unfolding density_at height_of of_int of_bits neg round

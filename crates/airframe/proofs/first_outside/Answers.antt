@@ -5,8 +5,8 @@ use Rattle.ordered.proofs.Ordered.{fail-end, fail-here, fail-next, from_start, n
 use Rattle.airframe.specs.Acceptance.{inside_from, number_inside}
 use Rattle.airframe.proofs.first_outside.Goals as goal
 
-pub returns-then-numbers_inside-clause-fact_1 : goal.returns-then-numbers_inside-clause-fact_1
-returns-then-numbers_inside-clause-fact_1 c = sym (pass-none _ _ (sym c.numbers_inside.ensures ∙ c.if-numbers_inside.true))
+pub returns-then-numbers_inside-clause-value : goal.returns-then-numbers_inside-clause-value
+returns-then-numbers_inside-clause-value c = sym (pass-none _ _ (sym c.numbers_inside.ensures ∙ c.if-numbers_inside.true))
 
 pub loop-i-init : goal.loop-i-init
 loop-i-init c = (search rules, search rules, from_start _ _)
@@ -15,9 +15,9 @@ pub returns-then-not-inside : goal.returns-then-not-inside
 unfolding inside_from number_inside
 returns-then-not-inside c =
     let s = c in record {
-      fact_1 = sym (s.loop-i.invariant.2 ∙ fail-here _ s.loop-i.i _ c.loop-i-test.true
+      value = sym (s.loop-i.invariant.2 ∙ fail-here _ s.loop-i.i _ c.loop-i-test.true
           (sym c.inside.ensures ∙ not-true c.if-not-inside.true-raw));
-      fact_2 = search rules;
+      upper_bound = search rules;
     }
 
 pub loop-i-preserved : goal.loop-i-preserved
@@ -30,5 +30,5 @@ loop-i-preserved c =
           (sym c.inside.ensures ∙ not-false c.if-not-inside.false-raw),
     )
 
-pub returns-clause-fact_1 : goal.returns-clause-fact_1
-returns-clause-fact_1 c = sym (c.loop-i.invariant.2 ∙ fail-end _ c.loop-i.i _ c.loop-i-test.false)
+pub returns-clause-value : goal.returns-clause-value
+returns-clause-value c = sym (c.loop-i.invariant.2 ∙ fail-end _ c.loop-i.i _ c.loop-i-test.false)

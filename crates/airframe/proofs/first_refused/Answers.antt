@@ -17,17 +17,17 @@ record Asks (s : Segment) : Type 0 where
 pub segment_outside-base-requires : goal.segment_outside-base-requires
 segment_outside-base-requires c =
     let a : Asks c.base.result = subst Asks (sym c.base.ensures) (record { first = omega arith; place = omega arith; most = omega arith }) in
-    record { fact_1 = a.first; fact_2 = a.place; fact_3 = a.most }
+    record { numbers_within = a.first; place_lower_bound = a.place; place_upper_bound = a.most }
 
 pub segment_outside-wash-requires : goal.segment_outside-wash-requires
 segment_outside-wash-requires c =
     let a : Asks c.wash.result = subst Asks (sym c.wash.ensures) (record { first = omega arith; place = omega arith; most = omega arith }) in
-    record { fact_1 = a.first; fact_2 = a.place; fact_3 = a.most }
+    record { numbers_within = a.first; place_lower_bound = a.place; place_upper_bound = a.most }
 
 pub segment_outside-lift-requires : goal.segment_outside-lift-requires
 segment_outside-lift-requires c =
     let a : Asks c.lift.result = subst Asks (sym c.lift.ensures) (record { first = omega arith; place = omega arith; most = omega arith }) in
-    record { fact_1 = a.first; fact_2 = a.place; fact_3 = a.most }
+    record { numbers_within = a.first; place_lower_bound = a.place; place_upper_bound = a.most }
 
 pub returns : goal.returns
 unfolding first_refused of_bits round

@@ -4,7 +4,7 @@ use Rattle.airframe.proofs.segment_outside.Goals as goal
 
 pub returns-then-s : goal.returns-then-s
 unfolding segment_outside
-returns-then-s c = simp (c.after.ensures, c.first_outside.ensures.fact_1, c.if-s.true)
+returns-then-s c = simp (c.after.ensures, c.first_outside.ensures.value, c.if-s.true)
 
 pub returns : goal.returns
 unfolding segment_outside

@@ -30,8 +30,8 @@ read_body-requires c =
     let a = c in
     let n = announced-bytes _ _ (sym a.announced-said.ensures ∙ c.in-Bytes.is) in
     record {
-      fact_1 = n.1;
-      fact_2 = omega (arith, c.if-n-to.false, n.0);
+      rows_bound = n.1;
+      bytes_within = omega (arith, c.if-n-to.false, n.0);
     }
 
 -- the header is refused

@@ -6,13 +6,13 @@ use Rattle.airframe_block.proofs.Order.{body-read, body_refused}
 use Rattle.airframe_block.specs.Block.{airframe_by, bytes_of, tested_block, read_rows, reserved_row, rows_from}
 use Rattle.airframe_block.proofs.read_body.Goals as goal
 
-pub reserved_row-requires-clause-fact_1 : goal.reserved_row-requires-clause-fact_1
+pub reserved_row-requires-clause-rows_bound : goal.reserved_row-requires-clause-rows_bound
 unfolding bytes_of
-reserved_row-requires-clause-fact_1 c = omega arith
+reserved_row-requires-clause-rows_bound c = omega arith
 
-pub reserved_row-requires-clause-fact_2 : goal.reserved_row-requires-clause-fact_2
+pub reserved_row-requires-clause-bytes_within : goal.reserved_row-requires-clause-bytes_within
 unfolding bytes_of
-reserved_row-requires-clause-fact_2 c = omega arith
+reserved_row-requires-clause-bytes_within c = omega arith
 
 pub returns-then-reserved_row-ne0 : goal.returns-then-reserved_row-ne0
 returns-then-reserved_row-ne0 c =
@@ -20,15 +20,15 @@ returns-then-reserved_row-ne0 c =
     let a = b.args in
     c.refused.ensures ∙ body_refused a.s.now a.h
     (λ q. c.if-reserved_row-ne0.true (b.reserved_row.ensures
-    ∙ ap (λ z. reserved_row a.s.now a.h.lift z a.h.rows) b.rows_at-start.ensures.fact_1 ∙ q))
+    ∙ ap (λ z. reserved_row a.s.now a.h.lift z a.h.rows) b.rows_at-start.ensures.value ∙ q))
 
-pub read_rows-rows-requires-clause-fact_1 : goal.read_rows-rows-requires-clause-fact_1
+pub read_rows-rows-requires-clause-rows_bound : goal.read_rows-rows-requires-clause-rows_bound
 unfolding bytes_of
-read_rows-rows-requires-clause-fact_1 c = omega arith
+read_rows-rows-requires-clause-rows_bound c = omega arith
 
-pub read_rows-rows-requires-clause-fact_2 : goal.read_rows-rows-requires-clause-fact_2
+pub read_rows-rows-requires-clause-bytes_within : goal.read_rows-rows-requires-clause-bytes_within
 unfolding bytes_of
-read_rows-rows-requires-clause-fact_2 c = omega arith
+read_rows-rows-requires-clause-bytes_within c = omega arith
 
 pub read_numbers-xs-requires : goal.read_numbers-xs-requires
 unfolding bytes_of
@@ -41,9 +41,9 @@ returns c =
     let b = r.before.before in
     let a = b.args in
     let n = c in
-    let rows = r.read_rows-rows.ensures ∙ ap (λ z. rows_from a.s.now z a.h.rows) b.rows_at-start.ensures.fact_1 in
+    let rows = r.read_rows-rows.ensures ∙ ap (λ z. rows_from a.s.now z a.h.rows) b.rows_at-start.ensures.value in
     let numbers = n.read_numbers-xs.ensures in
     c.tested.ensures
     ∙ ap₂ tested_block (c.airframe_by.ensures ∙ ap₂ (λ x y. airframe_by x a.h y) numbers rows) rows
     ∙ body-read a.s.now a.h (sym (b.reserved_row.ensures
-    ∙ ap (λ z. reserved_row a.s.now a.h.lift z a.h.rows) b.rows_at-start.ensures.fact_1) ∙ r.if-reserved_row-ne0.false)
+    ∙ ap (λ z. reserved_row a.s.now a.h.lift z a.h.rows) b.rows_at-start.ensures.value) ∙ r.if-reserved_row-ne0.false)

@@ -13,7 +13,7 @@ segment_bytes-wash_at-requires c =
     few b.base-base.result (base-holds b.base-base.result b.base-base.ensures)
 
 pub overflow_add-wash_at : goal.overflow_add-wash_at
-overflow_add-wash_at c = record { fits = omega (arith, c.segment_bytes-wash_at.ensures.fact_1 ∙ base-bytes _ c.base-base.ensures) }
+overflow_add-wash_at c = record { fits = omega (arith, c.segment_bytes-wash_at.ensures.value ∙ base-bytes _ c.base-base.ensures) }
 
 pub segment_bytes-requires : goal.segment_bytes-requires
 segment_bytes-requires c =
@@ -23,16 +23,16 @@ segment_bytes-requires c =
 pub overflow_add-lift_at : goal.overflow_add-lift_at
 overflow_add-lift_at c =
     let w = c in
-    let base = c.segment_bytes-wash_at.ensures.fact_1 ∙ base-bytes _ w.base-base.ensures in
-    record { fits = omega (arith, base, wash-bytes _ _ w.wash-wash.ensures, c.segment_bytes.ensures.fact_1) }
+    let base = c.segment_bytes-wash_at.ensures.value ∙ base-bytes _ w.base-base.ensures in
+    record { fits = omega (arith, base, wash-bytes _ _ w.wash-wash.ensures, c.segment_bytes.ensures.value) }
 
 pub read_segment-numbers-requires : goal.read_segment-numbers-requires
 read_segment-numbers-requires c =
     let b = c in
     let h = b.args.h in
     record {
-      fact_1 = base-holds b.base-base.result b.base-base.ensures;
-      fact_2 = omega (arith, rows-at-is h, ap segment_bytes b.base-base.ensures);
+      numbers_within = base-holds b.base-base.result b.base-base.ensures;
+      bytes_within = omega (arith, rows-at-is h, ap segment_bytes b.base-base.ensures);
     }
 
 pub read_segment-washed-requires : goal.read_segment-washed-requires
@@ -41,8 +41,8 @@ read_segment-washed-requires c =
     let w = n.before.before in
     let b = w.before in
     let h = b.args.h in record {
-      fact_1 = wash-holds w.wash-wash.result _ w.wash-wash.ensures;
-      fact_2 = omega (arith, rows-at-is h, ap segment_bytes b.base-base.ensures, ap segment_bytes w.wash-wash.ensures, n.segment_bytes-wash_at.ensures.fact_1);
+      numbers_within = wash-holds w.wash-wash.result _ w.wash-wash.ensures;
+      bytes_within = omega (arith, rows-at-is h, ap segment_bytes b.base-base.ensures, ap segment_bytes w.wash-wash.ensures, n.segment_bytes-wash_at.ensures.value);
     }
 
 pub read_segment-requires : goal.read_segment-requires
@@ -53,15 +53,15 @@ read_segment-requires c =
     let w = l.before in
     let b = w.before in
     let h = b.args.h in record {
-      fact_1 = lift-holds l.lift-lift.result _ l.lift-lift.ensures;
-      fact_2 = omega (
+      numbers_within = lift-holds l.lift-lift.result _ l.lift-lift.ensures;
+      bytes_within = omega (
         arith,
         rows-at-is h,
         ap segment_bytes b.base-base.ensures,
         ap segment_bytes w.wash-wash.ensures,
         ap segment_bytes l.lift-lift.ensures,
-        n.segment_bytes-wash_at.ensures.fact_1,
-        m.segment_bytes.ensures.fact_1,
+        n.segment_bytes-wash_at.ensures.value,
+        m.segment_bytes.ensures.value,
       );
     }
 
@@ -74,8 +74,8 @@ returns c =
       c.read_segment.ensures,
       c.read_segment-washed.ensures,
       c.read_segment-numbers.ensures,
-      m.segment_bytes.ensures.fact_1,
-      m.segment_bytes-wash_at.ensures.fact_1,
+      m.segment_bytes.ensures.value,
+      m.segment_bytes-wash_at.ensures.value,
       l.lift-lift.ensures,
       l.wash-wash.ensures,
       l.base-base.ensures,

@@ -5,8 +5,8 @@ use Rattle.airframe_block.specs.Block.{put_segment}
 use Rattle.airframe_block.proofs.Segments.{present-bytes}
 use Rattle.airframe_block.proofs.read_segment.Goals as goal
 
-pub read_present-requires-clause-fact_2 : goal.read_present-requires-clause-fact_2
-read_present-requires-clause-fact_2 c = omega (arith, present-bytes c.args.x c.if-x.true)
+pub read_present-requires-clause-bytes_within : goal.read_present-requires-clause-bytes_within
+read_present-requires-clause-bytes_within c = omega (arith, present-bytes c.args.x c.if-x.true)
 
 pub returns-then-x : goal.returns-then-x
 unfolding put_segment

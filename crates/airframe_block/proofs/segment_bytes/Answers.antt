@@ -4,18 +4,18 @@ use borrow.Author.Rules.{rules}
 use Rattle.airframe_block.specs.Block.{segment_bytes}
 use Rattle.airframe_block.proofs.segment_bytes.Goals as goal
 
-pub returns-then-x-clause-fact_1 : goal.returns-then-x-clause-fact_1
+pub returns-then-x-clause-value : goal.returns-then-x-clause-value
 unfolding segment_bytes
-returns-then-x-clause-fact_1 c = simp c.if-x.true
+returns-then-x-clause-value c = simp c.if-x.true
 
-pub returns-then-x-clause-fact_2 : goal.returns-then-x-clause-fact_2
+pub returns-then-x-clause-upper_bound : goal.returns-then-x-clause-upper_bound
 unfolding segment_bytes
-returns-then-x-clause-fact_2 c = search rules
+returns-then-x-clause-upper_bound c = search rules
 
-pub returns-clause-fact_1 : goal.returns-clause-fact_1
+pub returns-clause-value : goal.returns-clause-value
 unfolding segment_bytes
-returns-clause-fact_1 c = simp c.if-x.false
+returns-clause-value c = simp c.if-x.false
 
-pub returns-clause-fact_2 : goal.returns-clause-fact_2
+pub returns-clause-upper_bound : goal.returns-clause-upper_bound
 unfolding segment_bytes
-returns-clause-fact_2 c = omega arith
+returns-clause-upper_bound c = omega arith

@@ -63,11 +63,11 @@ returns-then-k-lt-LIFT_NUMBERS_AT c =
       le-ltb _ _ r.if-k-lt-KIND_AT.false,
     )
 
-pub lift_number-requires-clause-fact_1 : goal.lift_number-requires-clause-fact_1
-lift_number-requires-clause-fact_1 c = omega arith
+pub lift_number-requires-clause-lower_bound : goal.lift_number-requires-clause-lower_bound
+lift_number-requires-clause-lower_bound c = omega arith
 
-pub lift_number-requires-clause-fact_2 : goal.lift_number-requires-clause-fact_2
-lift_number-requires-clause-fact_2 c = omega arith
+pub lift_number-requires-clause-upper_bound : goal.lift_number-requires-clause-upper_bound
+lift_number-requires-clause-upper_bound c = omega arith
 
 pub returns : goal.returns
 unfolding airframe_number

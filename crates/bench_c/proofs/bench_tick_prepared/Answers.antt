@@ -13,12 +13,12 @@ flight_in-f-requires c = omega (arith, (arrays-fit _ _ _ (sym c.arrays_fit.ensur
 pub tick_in-t-requires : goal.tick_in-t-requires
 tick_in-t-requires c = omega (arith, (arrays-fit _ _ _ (sym c.arrays_fit.ensures ∙ c.if-arrays_fit.true)).1.0)
 
-pub handed_back-requires-clause-fact_1 : goal.handed_back-requires-clause-fact_1
-handed_back-requires-clause-fact_1 c = (arrays-fit _ _ _ (sym c.arrays_fit.ensures
+pub handed_back-requires-clause-state_length : goal.handed_back-requires-clause-state_length
+handed_back-requires-clause-state_length c = (arrays-fit _ _ _ (sym c.arrays_fit.ensures
     ∙ c.if-arrays_fit.true)).0
 
-pub handed_back-requires-clause-fact_2 : goal.handed_back-requires-clause-fact_2
-handed_back-requires-clause-fact_2 c = (arrays-fit _ _ _ (sym c.arrays_fit.ensures
+pub handed_back-requires-clause-report_length : goal.handed_back-requires-clause-report_length
+handed_back-requires-clause-report_length c = (arrays-fit _ _ _ (sym c.arrays_fit.ensures
     ∙ c.if-arrays_fit.true)).1.1
 
 pub returns-then-arrays_fit : goal.returns-then-arrays_fit

@@ -13,10 +13,10 @@ tick_accepted-requires c =
     let b = d.before.before in
     let t = b.before.before in
     let a = d.airframe_in-a.ensures in record {
-      fact_1 = ap refused_place a ∙ sym t.refused_place-place.ensures ∙ t.if-place-eq0.true;
-      fact_2 = simp (b.lag_factors_from-lags.ensures, t.lag_constants_in.ensures, a);
-      fact_3 = t.powers_of_two-powers.ensures;
-      fact_4 = d.densities-densities.ensures;
+      airframe_accepted = ap refused_place a ∙ sym t.refused_place-place.ensures ∙ t.if-place-eq0.true;
+      lags_match = simp (b.lag_factors_from-lags.ensures, t.lag_constants_in.ensures, a);
+      powers_table = t.powers_of_two-powers.ensures;
+      densities_table = d.densities-densities.ensures;
     }
 
 pub returns-then-place-eq0 : goal.returns-then-place-eq0

@@ -4,26 +4,26 @@ use borrow.Author.Rules.{rules}
 use Rattle.flight.specs.Envelope.{attitude_outside}
 use Rattle.flight.proofs.attitude_outside.Goals as goal
 
-pub returns-then-inside-clause-fact_1 : goal.returns-then-inside-clause-fact_1
+pub returns-then-inside-clause-value : goal.returns-then-inside-clause-value
 unfolding attitude_outside of_bits round
-returns-then-inside-clause-fact_1 c = simp (
+returns-then-inside-clause-value c = simp (
   simp (c.inside.ensures, c.norm_squared.ensures) at c.if-inside.true,
   c.inside.ensures,
   c.norm_squared.ensures,
 )
 
-pub returns-then-inside-clause-fact_2 : goal.returns-then-inside-clause-fact_2
+pub returns-then-inside-clause-upper_bound : goal.returns-then-inside-clause-upper_bound
 unfolding attitude_outside of_bits round
-returns-then-inside-clause-fact_2 c = search rules
+returns-then-inside-clause-upper_bound c = search rules
 
-pub returns-clause-fact_1 : goal.returns-clause-fact_1
+pub returns-clause-value : goal.returns-clause-value
 unfolding attitude_outside of_bits round
-returns-clause-fact_1 c = simp (
+returns-clause-value c = simp (
   simp (c.inside.ensures, c.norm_squared.ensures) at c.if-inside.false,
   c.inside.ensures,
   c.norm_squared.ensures,
 )
 
-pub returns-clause-fact_2 : goal.returns-clause-fact_2
+pub returns-clause-upper_bound : goal.returns-clause-upper_bound
 unfolding attitude_outside of_bits round
-returns-clause-fact_2 c = search rules
+returns-clause-upper_bound c = search rules

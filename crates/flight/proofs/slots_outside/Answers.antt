@@ -6,13 +6,13 @@ use native.Mathlib.Omega.{arith}
 use mathlib.Core.Path.{◌∙◌, refl, sym}
 use Rattle.flight.proofs.slots_outside.Goals as goal
 
-pub returns-then-slots_inside-clause-fact_1 : goal.returns-then-slots_inside-clause-fact_1
+pub returns-then-slots_inside-clause-value : goal.returns-then-slots_inside-clause-value
 unfolding slots_outside
-returns-then-slots_inside-clause-fact_1 c = sym (pass-none _ 8 (sym c.slots_inside.ensures ∙ c.if-slots_inside.true))
+returns-then-slots_inside-clause-value c = sym (pass-none _ 8 (sym c.slots_inside.ensures ∙ c.if-slots_inside.true))
 
-pub returns-then-slots_inside-clause-fact_2 : goal.returns-then-slots_inside-clause-fact_2
+pub returns-then-slots_inside-clause-upper_bound : goal.returns-then-slots_inside-clause-upper_bound
 unfolding slots_outside
-returns-then-slots_inside-clause-fact_2 c = search rules
+returns-then-slots_inside-clause-upper_bound c = search rules
 
 pub loop-i-init : goal.loop-i-init
 loop-i-init c = (search rules, refl)
@@ -21,9 +21,9 @@ pub returns-then-not-inside : goal.returns-then-not-inside
 unfolding slots_outside slot_inside
 returns-then-not-inside c =
     let s = c in record {
-      fact_1 = sym (s.loop-i.invariant.1 ∙ fail-here _ s.loop-i.i 8 c.loop-i-test.true
+      value = sym (s.loop-i.invariant.1 ∙ fail-here _ s.loop-i.i 8 c.loop-i-test.true
           (sym c.inside.ensures ∙ not-true c.if-not-inside.true-raw));
-      fact_2 = omega (arith, c.loop-i-test.true);
+      upper_bound = omega (arith, c.loop-i-test.true);
     }
 
 pub loop-i-preserved : goal.loop-i-preserved
@@ -35,10 +35,10 @@ loop-i-preserved c =
           (sym c.inside.ensures ∙ not-false c.if-not-inside.false-raw),
     )
 
-pub returns-clause-fact_1 : goal.returns-clause-fact_1
+pub returns-clause-value : goal.returns-clause-value
 unfolding slots_outside
-returns-clause-fact_1 c = sym (c.loop-i.invariant.1 ∙ fail-end _ c.loop-i.i 8 c.loop-i-test.false)
+returns-clause-value c = sym (c.loop-i.invariant.1 ∙ fail-end _ c.loop-i.i 8 c.loop-i-test.false)
 
-pub returns-clause-fact_2 : goal.returns-clause-fact_2
+pub returns-clause-upper_bound : goal.returns-clause-upper_bound
 unfolding slots_outside
-returns-clause-fact_2 c = search rules
+returns-clause-upper_bound c = search rules

@@ -3,9 +3,9 @@ use borrow.Author.Rules.{rules}
 use Rattle.flight.specs.Envelope.{vec_outside}
 use Rattle.flight.proofs.vec_outside.Goals as goal
 
-pub returns-then-inside-3-clause-fact_1 : goal.returns-then-inside-3-clause-fact_1
+pub returns-then-inside-3-clause-value : goal.returns-then-inside-3-clause-value
 unfolding vec_outside
-returns-then-inside-3-clause-fact_1 c = simp (
+returns-then-inside-3-clause-value c = simp (
   simp (c.inside-then-inside-2.ensures, c.inside-then-inside.ensures, c.inside.ensures)
       at c.if-inside-3.true,
   c.inside-then-inside-2.ensures,
@@ -15,13 +15,13 @@ returns-then-inside-3-clause-fact_1 c = simp (
   c.inside.ensures,
 )
 
-pub returns-then-inside-3-clause-fact_2 : goal.returns-then-inside-3-clause-fact_2
+pub returns-then-inside-3-clause-upper_bound : goal.returns-then-inside-3-clause-upper_bound
 unfolding vec_outside
-returns-then-inside-3-clause-fact_2 c = search rules
+returns-then-inside-3-clause-upper_bound c = search rules
 
-pub returns-then-inside-2-clause-fact_1 : goal.returns-then-inside-2-clause-fact_1
+pub returns-then-inside-2-clause-value : goal.returns-then-inside-2-clause-value
 unfolding vec_outside
-returns-then-inside-2-clause-fact_1 c = simp (
+returns-then-inside-2-clause-value c = simp (
   simp (c.inside-then-inside-2.ensures, c.inside-then-inside.ensures, c.inside.ensures)
       at c.if-inside-3.false,
   c.inside-then-inside-2.ensures,
@@ -31,27 +31,27 @@ returns-then-inside-2-clause-fact_1 c = simp (
   c.inside.ensures,
 )
 
-pub returns-then-inside-2-clause-fact_2 : goal.returns-then-inside-2-clause-fact_2
+pub returns-then-inside-2-clause-upper_bound : goal.returns-then-inside-2-clause-upper_bound
 unfolding vec_outside
-returns-then-inside-2-clause-fact_2 c = search rules
+returns-then-inside-2-clause-upper_bound c = search rules
 
-pub returns-then-inside-clause-fact_1 : goal.returns-then-inside-clause-fact_1
+pub returns-then-inside-clause-value : goal.returns-then-inside-clause-value
 unfolding vec_outside
-returns-then-inside-clause-fact_1 c = simp (
+returns-then-inside-clause-value c = simp (
   simp (c.inside-then-inside.ensures, c.inside.ensures) at c.if-inside-2.false,
   c.inside-then-inside.ensures,
   simp c.inside.ensures at c.if-inside.true,
   c.inside.ensures,
 )
 
-pub returns-then-inside-clause-fact_2 : goal.returns-then-inside-clause-fact_2
+pub returns-then-inside-clause-upper_bound : goal.returns-then-inside-clause-upper_bound
 unfolding vec_outside
-returns-then-inside-clause-fact_2 c = search rules
+returns-then-inside-clause-upper_bound c = search rules
 
-pub returns-clause-fact_1 : goal.returns-clause-fact_1
+pub returns-clause-value : goal.returns-clause-value
 unfolding vec_outside
-returns-clause-fact_1 c = simp (simp c.inside.ensures at c.if-inside.false, c.inside.ensures)
+returns-clause-value c = simp (simp c.inside.ensures at c.if-inside.false, c.inside.ensures)
 
-pub returns-clause-fact_2 : goal.returns-clause-fact_2
+pub returns-clause-upper_bound : goal.returns-clause-upper_bound
 unfolding vec_outside
-returns-clause-fact_2 c = search rules
+returns-clause-upper_bound c = search rules

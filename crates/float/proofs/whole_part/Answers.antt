@@ -15,21 +15,21 @@ part x a b p q = cc
 read : (c : goal.After-row_known-1) → to_z w64 (of_z w64 c.truncated.result) ≡ c.truncated.result
 read c = to_z-of_z w64 c.truncated.result (record { sfits = c.truncated.type_inv })
 
-pub truncated-requires-clause-fact_1 : goal.truncated-requires-clause-fact_1
+pub truncated-requires-clause-lower_bound : goal.truncated-requires-clause-lower_bound
 unfolding of_bits neg
-truncated-requires-clause-fact_1 c = subst T (sym c.if-x.true) tt
+truncated-requires-clause-lower_bound c = subst T (sym c.if-x.true) tt
 
-pub truncated-requires-clause-fact_2 : goal.truncated-requires-clause-fact_2
+pub truncated-requires-clause-upper_bound : goal.truncated-requires-clause-upper_bound
 unfolding of_bits neg
-truncated-requires-clause-fact_2 c = subst T (sym c.if-x-2.true) tt
+truncated-requires-clause-upper_bound c = subst T (sym c.if-x-2.true) tt
 
 pub int_to_float-result : goal.int_to_float-result
-int_to_float-result c = subst (λ (z : ℤ). T (in_float binary32 z)) (sym (read c)) c.truncated.ensures.fact_2
+int_to_float-result c = subst (λ (z : ℤ). T (in_float binary32 z)) (sym (read c)) c.truncated.ensures.exact
 
 pub returns-then-x-2 : goal.returns-then-x-2
 unfolding of_bits neg
 returns-then-x-2 c =
-    ap (of_int binary32) (read c ∙ c.truncated.ensures.fact_1)
+    ap (of_int binary32) (read c ∙ c.truncated.ensures.value)
     ∙ sym (part c.args.x true true c.if-x.true c.if-x-2.true)
 
 pub returns-else-x-2 : goal.returns-else-x-2

@@ -29,7 +29,7 @@ loop-i-init c =
       search rules,
       s.tick_count-count.ensures,
       refl,
-      s.requires.fact_2,
+      s.requires.state_inside,
       subst (FactorsMatchStep _) (sym c.begin-lags.ensures) (begin-of-its-step _ _ (of_bits-fits binary32 _)),
       search rules,
     )
@@ -38,8 +38,8 @@ pub cached_lag_factors-lags-requires : goal.cached_lag_factors-lags-requires
 cached_lag_factors-lags-requires c =
     let s = c in
     record {
-      fact_1 = s.loop-i.invariant.5;
-      fact_2 = s.powers_of_two-powers.ensures;
+      held_match = s.loop-i.invariant.5;
+      powers_table = s.powers_of_two-powers.ensures;
     }
 
 pub tick_inside-done-requires : goal.tick_inside-done-requires
@@ -47,20 +47,20 @@ tick_inside-done-requires c =
     let s = c in
     let begun = s.before.before.before in
     let start = begun.before.before.before.before in
-    let factors = c.cached_lag_factors-lags.ensures.fact_1 in
+    let factors = c.cached_lag_factors-lags.ensures.value in
     record {
-      fact_1 = start.requires.fact_1;
-      fact_2 = s.loop-i.invariant.4;
-      fact_3 = factors;
-      fact_4 = begun.powers_of_two-powers.ensures;
-      fact_5 = begun.densities-densities.ensures;
+      airframe_accepted = start.requires.airframe_accepted;
+      state_inside = s.loop-i.invariant.4;
+      lags_match = factors;
+      powers_table = begun.powers_of_two-powers.ensures;
+      densities_table = begun.densities-densities.ensures;
     }
 
 pub overflow_add-accepted : goal.overflow_add-accepted
 overflow_add-accepted c =
     let t = c in
     let s = t.before in
-    record { fits = omega (arith, s.loop-i.invariant.1, t.loop-i-test.true, c.one_if_done-accepted.ensures.fact_2, s.loop-i.invariant.6.fits) }
+    record { fits = omega (arith, s.loop-i.invariant.1, t.loop-i-test.true, c.one_if_done-accepted.ensures.upper_bound, s.loop-i.invariant.6.fits) }
 
 pub overflow_add-i : goal.overflow_add-i
 overflow_add-i c =
@@ -81,12 +81,12 @@ loop-i-preserved c =
       search rules,
       search rules,
       s.loop-i.invariant.2,
-      progress a.a p _ t.tick_at-t.result k.tick_inside-done.result n.result t.tick_at-t.ensures k.tick_inside-done.ensures n.ensures.fact_1
+      progress a.a p _ t.tick_at-t.result k.tick_inside-done.result n.result t.tick_at-t.ensures k.tick_inside-done.ensures n.ensures.value
           ∙ ap (λ (q : Progress). on q (tick_at a.trace.now i)) s.loop-i.invariant.3
           ∙ after_more on start a.trace.now i,
       ap (λ (x : TickResult). is_inside x.flight) k.tick_inside-done.ensures
           ∙ stays-inside a.a s.loop-i.flight t.tick_at-t.result s.loop-i.invariant.4,
-      k.cached_lag_factors-lags.ensures.fact_2,
+      k.cached_lag_factors-lags.ensures.matches_step,
       s.loop-i.invariant.6,
     )
 

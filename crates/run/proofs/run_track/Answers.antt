@@ -11,11 +11,11 @@ use mathlib.Core.Bool.{false}
 use borrow.Author.Rules.{rules}
 use Rattle.run.proofs.run_track.Goals as goal
 
-pub fly_all-requires-clause-fact_1 : goal.fly_all-requires-clause-fact_1
-fly_all-requires-clause-fact_1 c = sym c.refused_place.ensures ∙ c.if-refused_place-eq0.true
+pub fly_all-requires-clause-airframe_accepted : goal.fly_all-requires-clause-airframe_accepted
+fly_all-requires-clause-airframe_accepted c = sym c.refused_place.ensures ∙ c.if-refused_place-eq0.true
 
-pub fly_all-requires-clause-fact_2 : goal.fly_all-requires-clause-fact_2
-fly_all-requires-clause-fact_2 c = sym c.is_inside.ensures ∙ c.if-is_inside.true
+pub fly_all-requires-clause-state_inside : goal.fly_all-requires-clause-state_inside
+fly_all-requires-clause-state_inside c = sym c.is_inside.ensures ∙ c.if-is_inside.true
 
 pub returns-then-is_inside : goal.returns-then-is_inside
 unfolding track_result run_result_over track_flown

@@ -6,16 +6,16 @@ use mathlib.Core.Path.{◌∙◌, subst, sym}
 use borrow.Author.Rules.{rules}
 use Rattle.wing.proofs.cached_lag_factors.Goals as goal
 
-pub returns-then-to_bits-held-clause-fact_1 : goal.returns-then-to_bits-held-clause-fact_1
-returns-then-to_bits-held-clause-fact_1 c = begin-held _ _ _ (subst T (sym c.well_formed.1.1.0.1) tt) (sym c.to_bits.ensures ∙ c.if-to_bits-held.true)
-    c.requires.fact_1
+pub returns-then-to_bits-held-clause-value : goal.returns-then-to_bits-held-clause-value
+returns-then-to_bits-held-clause-value c = begin-held _ _ _ (subst T (sym c.well_formed.1.1.0.1) tt) (sym c.to_bits.ensures ∙ c.if-to_bits-held.true)
+    c.requires.held_match
 
-pub returns-then-to_bits-held-clause-fact_2 : goal.returns-then-to_bits-held-clause-fact_2
-returns-then-to_bits-held-clause-fact_2 c = c.requires.fact_1
+pub returns-then-to_bits-held-clause-matches_step : goal.returns-then-to_bits-held-clause-matches_step
+returns-then-to_bits-held-clause-matches_step c = c.requires.held_match
 
-pub returns-clause-fact_1 : goal.returns-clause-fact_1
-returns-clause-fact_1 c = c.begin.ensures
+pub returns-clause-value : goal.returns-clause-value
+returns-clause-value c = c.begin.ensures
 
-pub returns-clause-fact_2 : goal.returns-clause-fact_2
-returns-clause-fact_2 c = subst (FactorsMatchStep _) (sym c.begin.ensures)
+pub returns-clause-matches_step : goal.returns-clause-matches_step
+returns-clause-matches_step c = subst (FactorsMatchStep _) (sym c.begin.ensures)
     (begin-of-its-step _ _ (subst T (sym c.well_formed.1.1.0.1) tt))

@@ -30,6 +30,6 @@ returns c =
       l.surfaces_of.ensures,
       s.spin-motors.ensures,
       s.motors_of.ensures,
-      x.requires.fact_1,
+      x.requires.lags_match,
       held-factor x.args.a x.args.f x.args.t,
     )

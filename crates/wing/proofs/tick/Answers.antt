@@ -17,10 +17,10 @@ tick_accepted-requires c =
     let d = b.before.before in
     let t = d.before.before in
     record {
-      fact_1 = sym t.refused_place-place.ensures ∙ t.if-place-eq0.true;
-      fact_2 = b.begin-lags.ensures;
-      fact_3 = d.powers_of_two-powers.ensures;
-      fact_4 = d.densities-densities.ensures;
+      airframe_accepted = sym t.refused_place-place.ensures ∙ t.if-place-eq0.true;
+      lags_match = b.begin-lags.ensures;
+      powers_table = d.powers_of_two-powers.ensures;
+      densities_table = d.densities-densities.ensures;
     }
 
 pub returns : goal.returns

@@ -7,8 +7,8 @@ use Rattle.wing.proofs.tick_accepted.Goals as goal
 pub tick_inside-requires : goal.tick_inside-requires
 tick_inside-requires c =
     let p = c.requires in
-    record { fact_1 = p.fact_1; fact_2 = sym c.is_inside.ensures ∙ c.if-is_inside.true; fact_3 = p.fact_2; fact_4 = p.fact_3; fact_5 = p.fact_4 }
+    record { airframe_accepted = p.airframe_accepted; state_inside = sym c.is_inside.ensures ∙ c.if-is_inside.true; lags_match = p.lags_match; powers_table = p.powers_table; densities_table = p.densities_table }
 
 pub returns : goal.returns
 unfolding tick_of tick_with accepted_tick
-returns c = simp (c.refused.ensures, c.requires.fact_1, sym c.is_inside.ensures ∙ c.if-is_inside.false)
+returns c = simp (c.refused.ensures, c.requires.airframe_accepted, sym c.is_inside.ensures ∙ c.if-is_inside.false)

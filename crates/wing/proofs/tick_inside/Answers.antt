@@ -15,8 +15,8 @@ returns-then-wind_usable c =
       c.next_with.ensures,
       sym c.wind_usable.ensures ∙ c.if-wind_usable.true,
       sym outer.inside.ensures ∙ outer.if-inside.true,
-      pre.fact_1,
-      pre.fact_2,
+      pre.airframe_accepted,
+      pre.state_inside,
     )
 
 pub returns-then-inside : goal.returns-then-inside
@@ -28,12 +28,12 @@ returns-then-inside c =
       c.refused.ensures,
       sym c.wind_usable.ensures ∙ c.if-wind_usable.false,
       sym outer.inside.ensures ∙ outer.if-inside.true,
-      pre.fact_1,
-      pre.fact_2,
+      pre.airframe_accepted,
+      pre.state_inside,
     )
 
 pub returns : goal.returns
 unfolding tick_of tick_with accepted_tick of_bits round
 returns c =
     let pre = c.requires in
-    simp (c.refused-2.ensures, sym c.inside.ensures ∙ c.if-inside.false, pre.fact_1, pre.fact_2)
+    simp (c.refused-2.ensures, sym c.inside.ensures ∙ c.if-inside.false, pre.airframe_accepted, pre.state_inside)

@@ -5,4 +5,4 @@ use Rattle.airframe_block.proofs.Header.bytes.Goals as goal
 
 pub returns : goal.returns
 unfolding bytes_of
-returns c = simp c.rows_at-start.ensures.fact_1
+returns c = simp c.rows_at-start.ensures.value

@@ -19,36 +19,36 @@ segment_bytes-lift-requires c = few c.lift.result (lift-holds c.lift.result _ c.
 pub overflow_add-result : goal.overflow_add-result
 overflow_add-result c =
     let b = c in
-    let base = b.segment_bytes-base.ensures.fact_1 ∙ base-bytes _ b.base.ensures in
+    let base = b.segment_bytes-base.ensures.value ∙ base-bytes _ b.base.ensures in
     record { fits = omega (arith, base) }
 
 pub overflow_add-result-2 : goal.overflow_add-result-2
 overflow_add-result-2 c =
     let w = c in
     let b = w.before.before in
-    let base = b.segment_bytes-base.ensures.fact_1 ∙ base-bytes _ b.base.ensures in
+    let base = b.segment_bytes-base.ensures.value ∙ base-bytes _ b.base.ensures in
     let wash = wash-bytes _ _ w.wash.ensures in
-    record { fits = omega (arith, base, wash, w.segment_bytes-wash.ensures.fact_1) }
+    record { fits = omega (arith, base, wash, w.segment_bytes-wash.ensures.value) }
 
 pub overflow_add-result-3 : goal.overflow_add-result-3
 overflow_add-result-3 c =
     let w = c in
     let b = w.before.before in
-    let base = b.segment_bytes-base.ensures.fact_1 ∙ base-bytes _ b.base.ensures in
+    let base = b.segment_bytes-base.ensures.value ∙ base-bytes _ b.base.ensures in
     let wash = wash-bytes _ _ w.wash.ensures in
     let lift = lift-bytes _ _ c.lift.ensures in
-    record { fits = omega (arith, base, wash, lift, w.segment_bytes-wash.ensures.fact_1, c.segment_bytes-lift.ensures.fact_1) }
+    record { fits = omega (arith, base, wash, lift, w.segment_bytes-wash.ensures.value, c.segment_bytes-lift.ensures.value) }
 
 pub returns : goal.returns
 returns c =
     let w = c in
     let b = w.before.before in
-    let base = b.segment_bytes-base.ensures.fact_1 ∙ ap segment_bytes b.base.ensures in
-    let wash = w.segment_bytes-wash.ensures.fact_1 ∙ ap segment_bytes w.wash.ensures in
-    let lift = c.segment_bytes-lift.ensures.fact_1 ∙ ap segment_bytes c.lift.ensures in
-    let few-base = b.segment_bytes-base.ensures.fact_1 ∙ base-bytes _ b.base.ensures in
+    let base = b.segment_bytes-base.ensures.value ∙ ap segment_bytes b.base.ensures in
+    let wash = w.segment_bytes-wash.ensures.value ∙ ap segment_bytes w.wash.ensures in
+    let lift = c.segment_bytes-lift.ensures.value ∙ ap segment_bytes c.lift.ensures in
+    let few-base = b.segment_bytes-base.ensures.value ∙ base-bytes _ b.base.ensures in
     let few-wash = wash-bytes _ _ w.wash.ensures in
     let few-lift = lift-bytes _ _ c.lift.ensures in record {
-      fact_1 = ap₂ (λ (x y : ℕ). x + y) (ap₂ (λ (x y : ℕ). header_bytes + x + y) base wash) lift ∙ sym (rows-at-is _);
-      fact_2 = omega (arith, few-base, few-wash, few-lift, w.segment_bytes-wash.ensures.fact_1, c.segment_bytes-lift.ensures.fact_1);
+      value = ap₂ (λ (x y : ℕ). x + y) (ap₂ (λ (x y : ℕ). header_bytes + x + y) base wash) lift ∙ sym (rows-at-is _);
+      upper_bound = omega (arith, few-base, few-wash, few-lift, w.segment_bytes-wash.ensures.value, c.segment_bytes-lift.ensures.value);
     }

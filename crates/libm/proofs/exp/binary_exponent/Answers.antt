@@ -20,20 +20,20 @@ read_back x u k e t =
 
 pub truncated-requires : goal.truncated-requires
 unfolding of_bits
-truncated-requires c = let x = c.args.x in let s = cut-is-small (x ⊗ log2e ⊕ half) (cut-up-in x c.requires) in record { fact_1 = s.0; fact_2 = s.1 }
+truncated-requires c = let x = c.args.x in let s = cut-is-small (x ⊗ log2e ⊕ half) (cut-up-in x c.requires) in record { lower_bound = s.0; upper_bound = s.1 }
 
 pub truncated-requires-2 : goal.truncated-requires-2
 unfolding of_bits
-truncated-requires-2 c = let x = c.args.x in let s = cut-is-small (x ⊗ log2e ⊖ half) (cut-down-in x c.requires) in record { fact_1 = s.0; fact_2 = s.1 }
+truncated-requires-2 c = let x = c.args.x in let s = cut-is-small (x ⊗ log2e ⊖ half) (cut-down-in x c.requires) in record { lower_bound = s.0; upper_bound = s.1 }
 
 pub returns-then-x : goal.returns-then-x
 unfolding of_bits
 returns-then-x c =
-    let x = c.args.x in read_back x (x ⊗ log2e ⊕ half) c.truncated.result c.truncated.ensures.fact_1
+    let x = c.args.x in read_back x (x ⊗ log2e ⊕ half) c.truncated.result c.truncated.ensures.value
     (nearest-up x c.requires c.if-x.true)
 
 pub returns : goal.returns
 unfolding of_bits
 returns c =
-    let x = c.args.x in read_back x (x ⊗ log2e ⊖ half) c.truncated-2.result c.truncated-2.ensures.fact_1
+    let x = c.args.x in read_back x (x ⊗ log2e ⊖ half) c.truncated-2.result c.truncated-2.ensures.value
     (nearest-down x c.requires c.if-x.false)

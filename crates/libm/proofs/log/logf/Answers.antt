@@ -11,11 +11,11 @@ use Rattle.libm.proofs.log.logf.Goals as goal
 pub float_to_bits-b : goal.float_to_bits-b
 float_to_bits-b c = above_no_nan c.args.v c.if-v.true
 
-pub positive-requires-clause-fact_1 : goal.positive-requires-clause-fact_1
-positive-requires-clause-fact_1 c = bits_pos c.args.v (subst T (sym c.well_formed.0.1) tt) c.if-v.true
+pub positive-requires-clause-above_zero : goal.positive-requires-clause-above_zero
+positive-requires-clause-above_zero c = bits_pos c.args.v (subst T (sym c.well_formed.0.1) tt) c.if-v.true
 
-pub positive-requires-clause-fact_2 : goal.positive-requires-clause-fact_2
-positive-requires-clause-fact_2 c = c.if-b-lt2139095040.true
+pub positive-requires-clause-finite : goal.positive-requires-clause-finite
+positive-requires-clause-finite c = c.if-b-lt2139095040.true
 
 pub returns-then-b-lt2139095040 : goal.returns-then-b-lt2139095040
 returns-then-b-lt2139095040 c = c.positive.ensures ∙ ap ln_of (of_bits-to_bits binary32 c.args.v (subst T (sym c.well_formed.0.1) tt))

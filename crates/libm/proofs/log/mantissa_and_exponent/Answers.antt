@@ -23,11 +23,11 @@ pub float_from_bits-result : goal.float_from_bits-result
 float_from_bits-result c = not-nan-pattern ((c.args.b + 1065353216 - 1060439283) % 8388608 + 1060439283) (omega arith)
 
 pub overflow_sub-result : goal.overflow_sub-result
-overflow_sub-result c = subst (λ (z : ℤ). SFits w64 z) (sym (field c)) (binary-fits _ (split_pattern c.args.b c.requires.fact_1 c.requires.fact_2).in-range)
+overflow_sub-result c = subst (λ (z : ℤ). SFits w64 z) (sym (field c)) (binary-fits _ (split_pattern c.args.b c.requires.normal c.requires.finite).in-range)
 
 pub returns : goal.returns
 returns c =
     let b = c.args.b in
-    let s = split_pattern b c.requires.fact_1 c.requires.fact_2 in
+    let s = split_pattern b c.requires.normal c.requires.finite in
     subst (λ (z : ℤ). SplitOf (of_bits binary32 b) (of_bits binary32 ((b + 1065353216 - 1060439283) % 8388608 + 1060439283)) z)
     (sym (ap (λ (z : ℤ). to_z w64 (of_z w64 z)) (field c) ∙ to_z-of_z w64 _ (binary-fits _ s.in-range))) s

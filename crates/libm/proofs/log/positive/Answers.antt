@@ -39,11 +39,11 @@ unfolding in_float
 int_to_float-b c = le→leb c.args.b (2 ^ 24) (omega arith)
 
 pub float_to_bits-b : goal.float_to_bits-b
-float_to_bits-b c = whole-number c.args.b c.requires.fact_1 c.if-b-lt8388608.true
+float_to_bits-b c = whole-number c.args.b c.requires.above_zero c.if-b-lt8388608.true
 
 pub mantissa_and_exponent-p-requires : goal.mantissa_and_exponent-p-requires
 mantissa_and_exponent-p-requires c =
-    let w = whole-pattern c.args.b c.requires.fact_1 c.if-b-lt8388608.true in record { fact_1 = w.0; fact_2 = w.1 }
+    let w = whole-pattern c.args.b c.requires.above_zero c.if-b-lt8388608.true in record { normal = w.0; finite = w.1 }
 
 pub overflow_sub-p : goal.overflow_sub-p
 overflow_sub-p c =
@@ -51,15 +51,15 @@ overflow_sub-p c =
     let r = c.mantissa_and_exponent-p.result in
     let w = c.mantissa_and_exponent-p.ensures in
     subst (λ (z : ℤ). SFits w64 (z -ℤ pos 149)) (sym (read b r.mantissa r.exponent w))
-    (binary-fits (r.exponent -ℤ pos 149) (lowered b r.mantissa r.exponent c.requires.fact_1 c.if-b-lt8388608.true w))
+    (binary-fits (r.exponent -ℤ pos 149) (lowered b r.mantissa r.exponent c.requires.above_zero c.if-b-lt8388608.true w))
 
 pub joined-requires : goal.joined-requires
 joined-requires c =
     let b = c.args.b in
     let r = c.mantissa_and_exponent-p.result in
     let w = c.mantissa_and_exponent-p.ensures in
-    subst Binary (sym (read-lowered b r.mantissa r.exponent c.requires.fact_1 c.if-b-lt8388608.true w))
-    (lowered b r.mantissa r.exponent c.requires.fact_1 c.if-b-lt8388608.true w)
+    subst Binary (sym (read-lowered b r.mantissa r.exponent c.requires.above_zero c.if-b-lt8388608.true w))
+    (lowered b r.mantissa r.exponent c.requires.above_zero c.if-b-lt8388608.true w)
 
 pub returns-then-b-lt8388608 : goal.returns-then-b-lt8388608
 returns-then-b-lt8388608 c =
@@ -67,8 +67,8 @@ returns-then-b-lt8388608 c =
     let r = c.mantissa_and_exponent-p.result in
     let w = c.mantissa_and_exponent-p.ensures in
     c.joined.ensures
-    ∙ ap (λ (z : ℤ). ln_of_parts r.mantissa z) (read-lowered b r.mantissa r.exponent c.requires.fact_1 c.if-b-lt8388608.true w)
-    ∙ ln-below b c.requires.fact_1 c.if-b-lt8388608.true r.mantissa r.exponent (whole_parts b r.mantissa r.exponent w)
+    ∙ ap (λ (z : ℤ). ln_of_parts r.mantissa z) (read-lowered b r.mantissa r.exponent c.requires.above_zero c.if-b-lt8388608.true w)
+    ∙ ln-below b c.requires.above_zero c.if-b-lt8388608.true r.mantissa r.exponent (whole_parts b r.mantissa r.exponent w)
 
 pub returns : goal.returns
 returns c =
@@ -77,4 +77,4 @@ returns c =
     let r = k.mantissa_and_exponent-p-2.result in
     c.joined-2.ensures
     ∙ ap (λ (z : ℤ). ln_of_parts r.mantissa z) (to_z-of_z w64 r.exponent (binary-fits r.exponent k.mantissa_and_exponent-p-2.ensures.in-range))
-    ∙ ln-pattern s.args.b (omega arith) s.requires.fact_2 r.mantissa r.exponent k.mantissa_and_exponent-p-2.ensures
+    ∙ ln-pattern s.args.b (omega arith) s.requires.finite r.mantissa r.exponent k.mantissa_and_exponent-p-2.ensures

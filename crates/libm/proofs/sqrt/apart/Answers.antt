@@ -17,17 +17,17 @@ overflow_cast-result c = omega arith
 pub overflow_add-result-then-b-ge8388608 : goal.overflow_add-result-then-b-ge8388608
 overflow_add-result-then-b-ge8388608 c = omega arith
 
-pub returns-then-b-ge8388608-clause-fact_1 : goal.returns-then-b-ge8388608-clause-fact_1
-returns-then-b-ge8388608-clause-fact_1 c = omega arith
+pub returns-then-b-ge8388608-clause-lower_bound : goal.returns-then-b-ge8388608-clause-lower_bound
+returns-then-b-ge8388608-clause-lower_bound c = omega arith
 
-pub returns-then-b-ge8388608-clause-fact_2 : goal.returns-then-b-ge8388608-clause-fact_2
-returns-then-b-ge8388608-clause-fact_2 c = omega arith
+pub returns-then-b-ge8388608-clause-upper_bound : goal.returns-then-b-ge8388608-clause-upper_bound
+returns-then-b-ge8388608-clause-upper_bound c = omega arith
 
-pub returns-then-b-ge8388608-clause-fact_3 : goal.returns-then-b-ge8388608-clause-fact_3
-returns-then-b-ge8388608-clause-fact_3 c = omega arith
+pub returns-then-b-ge8388608-clause-shift_bound : goal.returns-then-b-ge8388608-clause-shift_bound
+returns-then-b-ge8388608-clause-shift_bound c = omega arith
 
-pub returns-then-b-ge8388608-clause-fact_4 : goal.returns-then-b-ge8388608-clause-fact_4
-returns-then-b-ge8388608-clause-fact_4 c = normal-root c.args.b (omega arith) (omega arith)
+pub returns-then-b-ge8388608-clause-root : goal.returns-then-b-ge8388608-clause-root
+returns-then-b-ge8388608-clause-root c = normal-root c.args.b (omega arith) (omega arith)
 
 pub loop-m-init : goal.loop-m-init
 loop-m-init c = (omega arith, omega arith, refl)
@@ -52,8 +52,8 @@ returns c =
     let b = c.args.b in
     let l = c.loop-m in
     record {
-      fact_1 = omega arith;
-      fact_2 = omega arith;
-      fact_3 = omega arith;
-      fact_4 = subnormal-root b l.m l.k (omega arith) (omega arith) l.invariant.2;
+      lower_bound = omega arith;
+      upper_bound = omega arith;
+      shift_bound = omega arith;
+      root = subnormal-root b l.m l.k (omega arith) (omega arith) l.invariant.2;
     }

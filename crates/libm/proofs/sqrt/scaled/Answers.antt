@@ -32,11 +32,11 @@ fact c =
       }
     ]
 
-pub near-q-requires-clause-fact_1 : goal.near-q-requires-clause-fact_1
-near-q-requires-clause-fact_1 c = (fact c).lo
+pub near-q-requires-clause-lower_bound : goal.near-q-requires-clause-lower_bound
+near-q-requires-clause-lower_bound c = (fact c).lo
 
-pub near-q-requires-clause-fact_2 : goal.near-q-requires-clause-fact_2
-near-q-requires-clause-fact_2 c = (fact c).hi
+pub near-q-requires-clause-upper_bound : goal.near-q-requires-clause-upper_bound
+near-q-requires-clause-upper_bound c = (fact c).hi
 
 pub float_from_bits-result : goal.float_from_bits-result
 float_from_bits-result c = not-nan-pattern (c.args.j / 2 * 8388608 + c.near-q.result) (omega arith)

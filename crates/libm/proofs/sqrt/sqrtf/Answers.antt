@@ -14,11 +14,11 @@ float_to_bits-b c = above_no_nan c.args.x c.if-x.true
 pub guess-requires : goal.guess-requires
 guess-requires c = above_no_nan c.args.x c.if-x.true
 
-pub positive-requires-clause-fact_1 : goal.positive-requires-clause-fact_1
-positive-requires-clause-fact_1 c = bits_pos c.args.x (subst T (sym c.well_formed.0.1) tt) c.if-x.true
+pub positive-requires-clause-above_zero : goal.positive-requires-clause-above_zero
+positive-requires-clause-above_zero c = bits_pos c.args.x (subst T (sym c.well_formed.0.1) tt) c.if-x.true
 
-pub positive-requires-clause-fact_2 : goal.positive-requires-clause-fact_2
-positive-requires-clause-fact_2 c = c.if-b-lt2139095040.true
+pub positive-requires-clause-finite : goal.positive-requires-clause-finite
+positive-requires-clause-finite c = c.if-b-lt2139095040.true
 
 pub returns-then-b-lt2139095040 : goal.returns-then-b-lt2139095040
 returns-then-b-lt2139095040 c =
