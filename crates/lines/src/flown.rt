@@ -11,7 +11,7 @@ use airframe::Airframe;
 use flight::{Flight, Tick};
 
 // The state after the ticks flown, how many they were, and where the lines on the page end.
-#[derive(Drop)]
+#[derive(Clone, Copy)]
 pub struct Flown {
     pub flight: Flight,
     pub index: u64,

@@ -14,7 +14,7 @@ use wing::TickResult;
 
 // The two states after the ticks flown, how many they were, how many of them each flight accepted, the first that does not mirror
 // (0 for none), and where the lines on the page end.
-#[derive(Drop)]
+#[derive(Clone, Copy)]
 pub struct Track {
     pub first: Flight,
     pub second: Flight,
