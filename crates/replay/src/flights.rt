@@ -11,7 +11,7 @@ use state_block::StateRead;
 
 // What fly prints for the flight at hand stands in the first `end` bytes of a page; those before `at` were found in the list, and
 // `same` says whether all lines so far were.
-#[derive(Drop)]
+#[derive(Clone, Copy)]
 pub struct Page {
     pub at: usize,
     pub end: usize,
@@ -131,7 +131,7 @@ fn counted(t: Tally, p: Page) -> Tally {
 }
 
 // The flights so far, and the page of the one at hand, where there is one.
-#[derive(Drop)]
+#[derive(Clone, Copy)]
 pub struct Walk {
     pub tally: Tally,
     pub page: Page,

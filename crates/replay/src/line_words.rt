@@ -6,7 +6,7 @@ use crate::words;
 
 // What is read of a line up to `at`: `count` words in all, of which `inputs` stand before the mark.
 // 0 inputs: no mark was read, or the line is not one of a list.
-#[derive(Drop)]
+#[derive(Clone, Copy)]
 pub struct Line {
     pub at: usize,
     pub inputs: usize,
