@@ -1,0 +1,21 @@
+-- `lines::digits::put_decimal` meets its contract. Assumes nothing.
+use Rattle.std.proofs.Common.{arith, rules}
+use Rattle.lines.specs.Text.{decimal_text, digit_count}
+use Rattle.lines.proofs.Texts.{length_digits}
+use Rattle.lines.proofs.digits.put_decimal.Goals as goal
+
+pub returns-clause-page : goal.returns-clause-page
+unfolding decimal_text
+returns-clause-page c = cc
+
+pub returns-clause-end_1 : goal.returns-clause-end_1
+unfolding decimal_text
+returns-clause-end_1 c = omega (
+      arith,
+      c.digit_count-k.ensures.fact_1,
+      length_digits 10 (digit_count 19 c.args.n) c.args.n,
+    )
+
+pub returns-clause-end_2 : goal.returns-clause-end_2
+unfolding decimal_text
+returns-clause-end_2 c = omega arith

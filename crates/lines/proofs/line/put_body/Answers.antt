@@ -1,0 +1,20 @@
+-- `lines::line::put_body` meets its contract. Assumes nothing.
+use Rattle.std.proofs.Common.{rules}
+use Rattle.lines.specs.Text.{attitude_text, body_text, vec_text}
+use Rattle.lines.proofs.Texts.{as-put, then}
+use Rattle.lines.proofs.line.put_body.Goals as goal
+
+pub returns : goal.returns
+unfolding body_text
+returns c = 
+    let b = c.args.b in
+    let position = as-put _ _ (vec_text b.position_ned_m) _ _ _ c.put_vec-velocity.ensures in
+    let velocity = as-put _ _ (vec_text b.velocity_ned_mps) _ _ _ c.put_vec-attitude.ensures in
+    let attitude = as-put _ _ (attitude_text b.attitude) _ _ _ c.put_attitude-rates.ensures in
+    let rates = as-put _ _ (vec_text b.angular_velocity_radps) _ _ _ c.put_vec.ensures in
+    let all = then (then (then position velocity) attitude) rates in
+    record {
+      page = all.page;
+      end_1 = all.next;
+      end_2 = search rules;
+    }

@@ -1,0 +1,44 @@
+-- `replay::words::is_word` meets its contract. Assumes nothing.
+use Rattle.std.proofs.Common.{rules}
+use borrow.Author.Tests.{not-false, not-true}
+use Rattle.replay.specs.Words.{is_word}
+use Rattle.replay.proofs.words.is_word.Goals as goal
+
+pub returns-then-not-is_pair : goal.returns-then-not-is_pair
+unfolding is_word
+returns-then-not-is_pair c = simp (← c.is_pair.ensures, not-true c.is_pair.result c.if-not-is_pair.true-raw)
+
+pub returns-then-not-is_pair-2 : goal.returns-then-not-is_pair-2
+unfolding is_word
+returns-then-not-is_pair-2 c = 
+    simp (
+      ← c.is_pair-2.ensures,
+      ← c.is_pair.ensures,
+      not-true c.is_pair-2.result c.if-not-is_pair-2.true-raw,
+      not-false c.is_pair.result c.if-not-is_pair.false-raw,
+    )
+
+pub returns-then-not-is_pair-3 : goal.returns-then-not-is_pair-3
+unfolding is_word
+returns-then-not-is_pair-3 c = 
+    simp (
+      ← c.is_pair-3.ensures,
+      ← c.is_pair-2.ensures,
+      ← c.is_pair.ensures,
+      not-true c.is_pair-3.result c.if-not-is_pair-3.true-raw,
+      not-false c.is_pair-2.result c.if-not-is_pair-2.false-raw,
+      not-false c.is_pair.result c.if-not-is_pair.false-raw,
+    )
+
+pub returns : goal.returns
+unfolding is_word
+returns c = 
+    simp (
+      ← c.is_pair-4.ensures,
+      ← c.is_pair-3.ensures,
+      ← c.is_pair-2.ensures,
+      ← c.is_pair.ensures,
+      not-false c.is_pair-3.result c.if-not-is_pair-3.false-raw,
+      not-false c.is_pair-2.result c.if-not-is_pair-2.false-raw,
+      not-false c.is_pair.result c.if-not-is_pair.false-raw,
+    )
