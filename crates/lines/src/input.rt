@@ -93,8 +93,8 @@ pub struct Filled {
 
 // One read into s from `from` up to `to`.
 fn read_on<R: Read>(input: &mut Input<R>, s: &mut [u8], from: usize, to: usize) -> Filled
-    requires fact_1 { from ≤ to }
-    requires fact_2 { to ≤ length s.old }
+    requires order { from ≤ to }
+    requires room { to ≤ length s.old }
     ensures { (from ≤ result.end) × (result.end ≤ to) }
 {
     match input.reader.read(&mut s[from..to]) {
@@ -114,10 +114,10 @@ fn read_on<R: Read>(input: &mut Input<R>, s: &mut [u8], from: usize, to: usize) 
 
 // Reads on into s from `from` up to `to`, the end of the input, or a read that fails.
 pub fn fill<R: Read>(input: &mut Input<R>, s: &mut [u8], from: usize, to: usize) -> Filled
-    requires fact_1 { from ≤ to }
-    requires fact_2 { to ≤ length s.old }
-    ensures fact_1 { from ≤ result.end }
-    ensures fact_2 { result.end ≤ to }
+    requires order { from ≤ to }
+    requires room { to ≤ length s.old }
+    ensures low { from ≤ result.end }
+    ensures high { result.end ≤ to }
 {
     let mut end = from;
     while end < to {

@@ -27,9 +27,9 @@ pub struct Opened {
 
 // How many bytes of an airframe block are read, by its first two: of a refused header no more than these.
 pub fn airframe_wanted(a: u8, b: u8) -> usize
-    ensures fact_1 { result ≡ wanted_by (announced_of a b) }
-    ensures fact_2 { header_bytes ≤ result }
-    ensures fact_3 { result ≤ most_bytes }
+    ensures count { result ≡ wanted_by (announced_of a b) }
+    ensures low { header_bytes ≤ result }
+    ensures high { result ≤ most_bytes }
 {
     let said = airframe_block::announced_of(a, b);
     match said {

@@ -49,8 +49,8 @@ pub fn flush(
 pub fn put_refusal(out: &mut [u8; PAGE_BYTES], at: usize, answer: Answer) -> usize
     requires { at + line_bytes ≤ page_bytes }
     ensures page { out.new ≡ overwrite out.old at (refusal_text answer) }
-    ensures end_1 { result ≡ at + length (refusal_text answer) }
-    ensures end_2 { result ≤ at + line_bytes }
+    ensures end { result ≡ at + length (refusal_text answer) }
+    ensures within { result ≤ at + line_bytes }
 {
     let behind_0 = text::put_byte(out, at, b'0');
     let number = text::put_byte(out, behind_0, b' ');
@@ -64,8 +64,8 @@ pub fn put_refusal(out: &mut [u8; PAGE_BYTES], at: usize, answer: Answer) -> usi
 pub fn put_end(out: &mut [u8; PAGE_BYTES], at: usize, n: usize) -> usize
     requires { at + line_bytes ≤ page_bytes }
     ensures page { out.new ≡ overwrite out.old at (end_text n) }
-    ensures end_1 { result ≡ at + length (end_text n) }
-    ensures end_2 { result ≤ at + line_bytes }
+    ensures end { result ≡ at + length (end_text n) }
+    ensures within { result ≤ at + line_bytes }
 {
     if n % trace::TICK_BYTES == 0 {
         return at;

@@ -22,8 +22,8 @@ fn fly_page(a: Airframe, p: Track, trace: &[u8], beside: bool, out: &mut [u8; PA
     requires { length trace.now ≤ 200 * tick_bytes }
     ensures tracks { tracks_of result ≡ tracks_over beside a p trace.now }
     ensures page { out.new ≡ overwrite out.old 0 (page_text beside a p trace.now) }
-    ensures end_1 { result.at ≡ length (page_text beside a p trace.now) }
-    ensures end_2 { result.at ≤ 200 * (2 * line_bytes) }
+    ensures end { result.at ≡ length (page_text beside a p trace.now) }
+    ensures within { result.at ≤ 200 * (2 * line_bytes) }
 {
     if beside {
         return track::fly_ticks(a, p, trace, out);

@@ -9,8 +9,8 @@ returns-then-rest-lt10 c =
     let l = c.loop-k in
     let last : digit_count (20 - l.k) l.rest ≡ 1 = digit-count-last (20 - l.k) l.rest (lt-ltb _ _ c.if-rest-lt10.true) in
     record {
-      fact_1 = omega (arith, last, l.invariant.2);
-      fact_2 = omega arith;
+      count = omega (arith, last, l.invariant.2);
+      within = omega arith;
     }
 
 pub loop-k-preserved : goal.loop-k-preserved
@@ -27,6 +27,6 @@ returns c =
     let none : 20 - l.k ≡ 0 = omega arith in
     let last : digit_count (20 - l.k) l.rest ≡ 1 = ap (λ (m : ℕ). digit_count m l.rest) none in
     record {
-      fact_1 = omega (arith, last, l.invariant.2);
-      fact_2 = omega arith;
+      count = omega (arith, last, l.invariant.2);
+      within = omega arith;
     }

@@ -8,14 +8,14 @@ pub returns-clause-page : goal.returns-clause-page
 unfolding decimal_text
 returns-clause-page c = cc
 
-pub returns-clause-end_1 : goal.returns-clause-end_1
+pub returns-clause-end : goal.returns-clause-end
 unfolding decimal_text
-returns-clause-end_1 c = omega (
+returns-clause-end c = omega (
       arith,
-      c.digit_count-k.ensures.fact_1,
+      c.digit_count-k.ensures.count,
       length_digits 10 (digit_count 19 c.args.n) c.args.n,
     )
 
-pub returns-clause-end_2 : goal.returns-clause-end_2
+pub returns-clause-within : goal.returns-clause-within
 unfolding decimal_text
-returns-clause-end_2 c = omega arith
+returns-clause-within c = omega arith

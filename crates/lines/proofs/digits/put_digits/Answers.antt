@@ -10,7 +10,7 @@ loop-i-init c = (search rules, refl)
 pub glyph-requires : goal.glyph-requires
 glyph-requires c = 
     let l = c.loop-i in
-    omega (arith, mod-lt l.rest c.requires.fact_1)
+    omega (arith, mod-lt l.rest c.requires.nonzero)
 
 pub loop-i-preserved : goal.loop-i-preserved
 loop-i-preserved c = 

@@ -11,9 +11,9 @@ returns c =
     let bits = c.wide in
     let digits =
     same_text (ap (digits_of 16 8) (bits.ensures ∙ c.shown.ensures)) (as-digits _ _ 16 8 bits.result _ c.put_digits.ensures) in
-    let all = then (as_byte _ _ _ _ _ b.ensures) digits in
+    let all = then (as_byte _ _ _ _ _ b.ensures.page b.ensures.end) digits in
     record {
       page = all.page;
-      end_1 = omega (arith, all.next, b.ensures.1);
-      end_2 = search rules;
+      end = omega (arith, all.next, b.ensures.end);
+      within = search rules;
     }

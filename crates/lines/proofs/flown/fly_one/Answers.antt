@@ -12,16 +12,16 @@ returns c =
     let a = c.args in
     let done = c.tick-done in
     let next = c.wrapping_add_u64-index in
-    let line = as-put _ _ (line_text next.result done.result.report.answer done.result.flight) _ _ _ c.put_line-at.ensures in
+    let line = as-put _ _ (line_text next.result done.result.report.answer done.result.flight) _ _ c.put_line-at.ensures.page c.put_line-at.ensures.end in
     let all =
     same_text
-    (ap (λ (i : ℕ). line_text i done.result.report.answer done.result.flight) next.ensures
+    (ap (λ (i : ℕ). line_text i done.result.report.answer done.result.flight) next.ensures.value
     ∙ ap (λ (d : TickResult). line_text (one_more a.p.index) d.report.answer d.flight) done.ensures)
     line in
     record {
-      out_after = all.page;
-      state_1 = ap (λ (d : TickResult). d.flight) done.ensures;
-      state_2 = next.ensures;
-      end_1 = all.next;
-      end_2 = search rules;
+      page = all.page;
+      flight = ap (λ (d : TickResult). d.flight) done.ensures;
+      index = next.ensures.value;
+      end = all.next;
+      within = search rules;
     }

@@ -22,9 +22,9 @@ loop-i-preserved c =
     (after_more (log_on a.a) (log_from a.p.flight a.p.index) a.trace.now l.i)
     l.invariant.4
     c.tick_at-t.ensures
-    f.1.0
-    f.1.1.0
-    (record { page = f.0; next = f.1.1.1.0 }) in
+    f.flight
+    f.index
+    (record { page = f.page; next = f.end }) in
     (search rules, search rules, search rules, search rules, more)
 
 pub returns : goal.returns
@@ -35,4 +35,11 @@ returns c =
     let start : TickLog = log_from a.p.flight a.p.index in
     let all = after-all (log_on a.a) start a.trace.now l.i (omega arith) (omega (arith, c.loop-i-test.false)) in
     let h = subst (λ (x : TickLog). Reached a.out.now x l.flown.flight l.flown.index l.out l.flown.at) all l.invariant.4 in
-    (h.put.page, (h.flight, (h.count, (omega (arith, h.put.next), search rules))))
+    record {
+      page = h.put.page;
+      flight = h.flight;
+      index = h.count;
+      end = omega (arith, h.put.next);
+      within = search rules;
+      room = search rules;
+    }

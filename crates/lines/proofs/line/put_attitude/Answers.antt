@@ -8,13 +8,13 @@ pub returns : goal.returns
 unfolding attitude_text
 returns c = 
     let q = c.args.q in
-    let w = as-put _ _ (word_text q.w) _ _ _ c.put_word-i.ensures in
-    let i = as-put _ _ (word_text q.i) _ _ _ c.put_word-j.ensures in
-    let j = as-put _ _ (word_text q.j) _ _ _ c.put_word-k.ensures in
-    let k = as-put _ _ (word_text q.k) _ _ _ c.put_word.ensures in
+    let w = as-put _ _ (word_text q.w) _ _ c.put_word-i.ensures.page c.put_word-i.ensures.end in
+    let i = as-put _ _ (word_text q.i) _ _ c.put_word-j.ensures.page c.put_word-j.ensures.end in
+    let j = as-put _ _ (word_text q.j) _ _ c.put_word-k.ensures.page c.put_word-k.ensures.end in
+    let k = as-put _ _ (word_text q.k) _ _ c.put_word.ensures.page c.put_word.ensures.end in
     let all = then (then (then w i) j) k in
     record {
       page = all.page;
-      end_1 = all.next;
-      end_2 = search rules;
+      end = all.next;
+      within = search rules;
     }

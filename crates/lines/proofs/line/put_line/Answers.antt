@@ -8,11 +8,11 @@ pub returns : goal.returns
 unfolding line_text
 returns c = 
     let a = c.args in
-    let index = as-put _ _ (decimal_text a.index) _ _ _ c.put_decimal-rest.ensures in
-    let rest = as-put _ _ (rest_text a.answer a.f) _ _ _ c.put_rest.ensures in
+    let index = as-put _ _ (decimal_text a.index) _ _ c.put_decimal-rest.ensures.page c.put_decimal-rest.ensures.end in
+    let rest = as-put _ _ (rest_text a.answer a.f) _ _ c.put_rest.ensures.page c.put_rest.ensures.end in
     let all = then index rest in
     record {
       page = all.page;
-      end_1 = all.next;
-      end_2 = search rules;
+      end = all.next;
+      within = search rules;
     }

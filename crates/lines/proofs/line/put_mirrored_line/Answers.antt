@@ -8,12 +8,12 @@ pub returns : goal.returns
 unfolding mirrored_text
 returns c = 
     let a = c.args in
-    let index = as-put _ _ (decimal_text a.index) _ _ _ c.put_decimal-mark.ensures in
-    let mark = as_byte _ _ _ _ _ c.put_byte-rest.ensures in
-    let rest = as-put _ _ (rest_text a.answer a.f) _ _ _ c.put_rest.ensures in
+    let index = as-put _ _ (decimal_text a.index) _ _ c.put_decimal-mark.ensures.page c.put_decimal-mark.ensures.end in
+    let mark = as_byte _ _ _ _ _ c.put_byte-rest.ensures.page c.put_byte-rest.ensures.end in
+    let rest = as-put _ _ (rest_text a.answer a.f) _ _ c.put_rest.ensures.page c.put_rest.ensures.end in
     let all = then (then index mark) rest in
     record {
       page = all.page;
-      end_1 = all.next;
-      end_2 = search rules;
+      end = all.next;
+      within = search rules;
     }

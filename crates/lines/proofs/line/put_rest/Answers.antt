@@ -9,14 +9,14 @@ unfolding rest_text
 returns c = 
     let b = c in
     let d = b.before.before in
-    let space = as_byte _ _ _ _ _ c.put_byte-number.ensures in
+    let space = as_byte _ _ _ _ _ c.put_byte-number.ensures.page c.put_byte-number.ensures.end in
     let number = same_text (ap decimal_text (d.wide.ensures ∙ d.number.ensures))
-    (as-put _ _ (decimal_text d.wide.result) _ _ _ d.put_decimal-body.ensures) in
-    let body = same_text (ap body_text b.body.ensures) (as-put _ _ (body_text b.body.result) _ _ _ c.put_body-end.ensures) in
-    let newline = as_byte _ _ _ _ _ c.put_byte.ensures in
+    (as-put _ _ (decimal_text d.wide.result) _ _ d.put_decimal-body.ensures.page d.put_decimal-body.ensures.end) in
+    let body = same_text (ap body_text b.body.ensures) (as-put _ _ (body_text b.body.result) _ _ c.put_body-end.ensures.page c.put_body-end.ensures.end) in
+    let newline = as_byte _ _ _ _ _ c.put_byte.ensures.page c.put_byte.ensures.end in
     let all = then (then (then space number) body) newline in
     record {
       page = all.page;
-      end_1 = all.next;
-      end_2 = search rules;
+      end = all.next;
+      within = search rules;
     }

@@ -8,12 +8,12 @@ pub returns : goal.returns
 unfolding vec_text
 returns c = 
     let v = c.args.v in
-    let x = as-put _ _ (word_text v.x) _ _ _ c.put_word-y.ensures in
-    let y = as-put _ _ (word_text v.y) _ _ _ c.put_word-z.ensures in
-    let z = as-put _ _ (word_text v.z) _ _ _ c.put_word.ensures in
+    let x = as-put _ _ (word_text v.x) _ _ c.put_word-y.ensures.page c.put_word-y.ensures.end in
+    let y = as-put _ _ (word_text v.y) _ _ c.put_word-z.ensures.page c.put_word-z.ensures.end in
+    let z = as-put _ _ (word_text v.z) _ _ c.put_word.ensures.page c.put_word.ensures.end in
     let all = then (then x y) z in
     record {
       page = all.page;
-      end_1 = all.next;
-      end_2 = search rules;
+      end = all.next;
+      within = search rules;
     }

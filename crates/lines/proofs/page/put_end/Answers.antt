@@ -11,16 +11,16 @@ returns-then-n-eq0 c =
     let all = same_text (end_whole a.n c.if-n-eq0.true) (nothing_put a.out.now a.at) in
     record {
       page = all.page;
-      end_1 = all.next;
-      end_2 = search rules;
+      end = all.next;
+      within = search rules;
     }
 
 pub returns : goal.returns
 returns c = 
     let a = c.args in
-    let all = same_text (end-cut a.n c.if-n-eq0.false) (as-put _ _ (refusal_text WrongLength) _ _ _ c.put_refusal.ensures) in
+    let all = same_text (end-cut a.n c.if-n-eq0.false) (as-put _ _ (refusal_text WrongLength) _ _ c.put_refusal.ensures.page c.put_refusal.ensures.end) in
     record {
       page = all.page;
-      end_1 = all.next;
-      end_2 = search rules;
+      end = all.next;
+      within = search rules;
     }

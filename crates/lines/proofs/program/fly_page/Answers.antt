@@ -9,10 +9,10 @@ returns-then-beside c =
     let e = c.fly_ticks.ensures in
     let b = c.if-beside.true in
     record {
-      tracks = simp b e.0;
-      page = simp b e.1.0;
-      end_1 = simp b e.1.1.0;
-      end_2 = search rules;
+      tracks = simp b e.tracks;
+      page = simp b e.page;
+      end = simp b e.end;
+      within = search rules;
     }
 
 pub returns : goal.returns
@@ -22,8 +22,8 @@ returns c =
     let e = f.fly_ticks-flown.ensures in
     let b = f.if-beside.false in
     record {
-      tracks = simp (b, e.1.0, e.1.1.0);
-      page = simp b e.0;
-      end_1 = simp b e.1.1.1.0;
-      end_2 = omega (arith, e.1.1.1.1.1);
+      tracks = simp (b, e.flight, e.index);
+      page = simp b e.page;
+      end = simp b e.end;
+      within = omega (arith, e.room);
     }

@@ -4,10 +4,10 @@ use Rattle.lines.specs.TickLog.{one_more}
 use Rattle.lines.specs.Tracks.{tracks_after}
 use Rattle.lines.proofs.track.after.Goals as goal
 
-pub returns-clause-fact_1 : goal.returns-clause-fact_1
+pub returns-clause-tracks : goal.returns-clause-tracks
 unfolding tracks_after one_more
-returns-clause-fact_1 c = cc
+returns-clause-tracks c = cc
 
-pub returns-clause-fact_2 : goal.returns-clause-fact_2
+pub returns-clause-at : goal.returns-clause-at
 unfolding tracks_after one_more
-returns-clause-fact_2 c = search rules
+returns-clause-at c = search rules

@@ -8,7 +8,7 @@ pub returns-then-is_done : goal.returns-then-is_done
 unfolding count_of one_more
 returns-then-is_done c = 
     let done = c.is_done in
-    c.wrapping_add_u64.ensures ∙ sym (simp (sym done.ensures ∙ c.if-is_done.true))
+    c.wrapping_add_u64.ensures.value ∙ sym (simp (sym done.ensures ∙ c.if-is_done.true))
 
 pub returns : goal.returns
 unfolding count_of

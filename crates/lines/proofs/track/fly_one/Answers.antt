@@ -24,13 +24,13 @@ returns c =
     ∙ ap (λ (w : Airframe). tick_of w a.p.second tick.result) wing.ensures
     ∙ ap (tick_of (reflect_airframe a.a) a.p.second) tick.ensures in
     let same =
-    ap (λ (i : ℕ). pair_text i x.result y.result) index.ensures
+    ap (λ (i : ℕ). pair_text i x.result y.result) index.ensures.value
     ∙ ap (λ (k : TickResult). pair_text (one_more a.p.ticks) k y.result) x.ensures
     ∙ ap (pair_text (one_more a.p.ticks) (tick_of a.a a.p.first a.t)) second in
-    let all = same_text same (as-put _ _ (pair_text index.result x.result y.result) _ _ _ c.put_both-at.ensures) in
+    let all = same_text same (as-put _ _ (pair_text index.result x.result y.result) _ _ c.put_both-at.ensures.page c.put_both-at.ensures.end) in
     record {
       tracks = cc;
       page = all.page;
-      end_1 = c.after.ensures.fact_2 ∙ all.next;
-      end_2 = omega (arith, c.after.ensures.fact_2, c.put_both-at.ensures.end_2);
+      end = c.after.ensures.at ∙ all.next;
+      within = omega (arith, c.after.ensures.at, c.put_both-at.ensures.within);
     }

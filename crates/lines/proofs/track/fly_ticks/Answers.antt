@@ -25,12 +25,12 @@ loop-i-preserved c =
     let line =
     same_text
     (ap (λ (p : Tracks). text_on a.a p t.result) l.invariant.4 ∙ ap (text_on a.a so_far.tracks) t.ensures)
-    (as-put _ _ (text_on a.a (tracks_of l.pair) t.result) _ _ _ f.1) in (
+    (as-put _ _ (text_on a.a (tracks_of l.pair) t.result) _ _ f.page f.end) in (
       search rules,
       search rules,
       search rules,
       search rules,
-      f.0
+      f.tracks
           ∙ ap (λ (p : Tracks). tracks_on a.a p t.result) l.invariant.4
           ∙ ap (tracks_on a.a so_far.tracks) t.ensures
           ∙ ap (λ (s : Shown). s.tracks) more,
@@ -48,6 +48,6 @@ returns c =
     record {
       tracks = l.invariant.4 ∙ ap (λ (s : Shown). s.tracks) all;
       page = put.page;
-      end_1 = omega (arith, put.next);
-      end_2 = search rules;
+      end = omega (arith, put.next);
+      within = search rules;
     }
