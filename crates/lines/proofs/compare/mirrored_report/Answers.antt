@@ -1,6 +1,5 @@
 -- `lines::compare::mirrored_report` meets its contract. Assumes nothing.
 use Rattle.lines.specs.Compare.{mirrored_report}
-use Rattle.std.proofs.Common.{rules}
 use Rattle.lines.proofs.compare.mirrored_report.Goals as goal
 
 pub returns : goal.returns

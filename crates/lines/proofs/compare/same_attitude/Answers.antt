@@ -1,6 +1,5 @@
 -- `lines::compare::same_attitude` meets its contract. Assumes nothing.
 use Rattle.lines.specs.Compare.{same_attitude}
-use Rattle.std.proofs.Common.{rules}
 use Rattle.lines.proofs.compare.same_attitude.Goals as goal
 
 pub returns : goal.returns

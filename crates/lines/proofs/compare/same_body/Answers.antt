@@ -1,6 +1,5 @@
 -- `lines::compare::same_body` meets its contract. Assumes nothing.
 use Rattle.lines.specs.Compare.{same_body}
-use Rattle.std.proofs.Common.{rules}
 use Rattle.lines.proofs.compare.same_body.Goals as goal
 
 pub returns : goal.returns

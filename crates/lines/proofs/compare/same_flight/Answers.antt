@@ -1,6 +1,5 @@
 -- `lines::compare::same_flight` meets its contract. Assumes nothing.
 use Rattle.lines.specs.Compare.{same_flight}
-use Rattle.std.proofs.Common.{rules}
 use Rattle.lines.proofs.compare.same_flight.Goals as goal
 
 pub returns : goal.returns

@@ -1,5 +1,5 @@
 -- `lines::compare::same_slots` meets its contract. Assumes nothing.
-use Rattle.std.proofs.Common.{◌≡◌, ◌-◌, ◌≤◌, Bool, false, cond, refl, ap, ◌∙◌, le_antisymm, rules}
+use Rattle.std.proofs.Common.{Bool, false, cond, refl, ap, ◌∙◌, le_antisymm, rules}
 use Rattle.lines.specs.Compare.{same_slot}
 use Rattle.ordered.specs.Ordered.{all_pass}
 use Rattle.ordered.proofs.Ordered.{pass-more}

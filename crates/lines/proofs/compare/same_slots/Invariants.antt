@@ -1,8 +1,7 @@
 -- `lines::compare::same_slots` meets its contract. Assumes nothing.
-use Rattle.std.proofs.Common.{◌≡◌, ◌-◌, ◌≤◌, Bool, false, cond, refl, ap, ◌∙◌, le_antisymm, rules}
+use Rattle.std.proofs.Common.{◌≡◌, ◌-◌, ◌≤◌}
 use Rattle.lines.specs.Compare.{same_slot}
 use Rattle.ordered.specs.Ordered.{all_pass}
-use Rattle.ordered.proofs.Ordered.{pass-more}
 use Rattle.lines.proofs.compare.same_slots.Given as goal
 
 abbrev pub invariant-loop-i : goal.invariant-loop-i

@@ -1,6 +1,5 @@
 -- `lines::compare::same_vec` meets its contract. Assumes nothing.
 use Rattle.lines.specs.Compare.{same_vec}
-use Rattle.std.proofs.Common.{rules}
 use Rattle.lines.proofs.compare.same_vec.Goals as goal
 
 pub returns : goal.returns

@@ -1,5 +1,5 @@
 -- `lines::digits::digit_count` meets its contract. Assumes nothing.
-use Rattle.std.proofs.Common.{◌≡◌, ℕ, suc, ◌+◌, ◌-◌, ◌/◌, ◌≤◌, ap, arith, rules, le-ltb, lt-ltb}
+use Rattle.std.proofs.Common.{◌≡◌, ℕ, suc, ◌+◌, ◌-◌, ◌/◌, ap, arith, le-ltb, lt-ltb}
 use Rattle.lines.specs.Text.{digit_count}
 use Rattle.lines.proofs.Texts.{digit-count-last, digit-count-more}
 use Rattle.lines.proofs.digits.digit_count.Goals as goal

@@ -1,7 +1,6 @@
 -- `lines::digits::digit_count` meets its contract. Assumes nothing.
-use Rattle.std.proofs.Common.{◌≡◌, ℕ, suc, ◌+◌, ◌-◌, ◌/◌, ◌≤◌, ap, arith, rules, le-ltb, lt-ltb}
+use Rattle.std.proofs.Common.{◌≡◌, ◌+◌, ◌-◌, ◌≤◌}
 use Rattle.lines.specs.Text.{digit_count}
-use Rattle.lines.proofs.Texts.{digit-count-last, digit-count-more}
 use Rattle.lines.proofs.digits.digit_count.Given as goal
 
 abbrev pub invariant-loop-k : goal.invariant-loop-k

@@ -1,5 +1,5 @@
 -- `lines::digits::glyph` meets its contract. Assumes nothing.
-use Rattle.std.proofs.Common.{rules, le-ltb, lt-ltb}
+use Rattle.std.proofs.Common.{le-ltb, lt-ltb}
 use Rattle.lines.specs.Glyph.{glyph_of}
 use Rattle.lines.proofs.digits.glyph.Goals as goal
 

@@ -1,5 +1,5 @@
 -- `lines::digits::put_decimal` meets its contract. Assumes nothing.
-use Rattle.std.proofs.Common.{arith, rules}
+use Rattle.std.proofs.Common.{arith}
 use Rattle.lines.specs.Text.{decimal_text, digit_count}
 use Rattle.lines.proofs.Texts.{length_digits}
 use Rattle.lines.proofs.digits.put_decimal.Goals as goal
@@ -16,6 +16,3 @@ returns-clause-end c = omega (
       length_digits 10 (digit_count 19 c.args.n) c.args.n,
     )
 
-pub returns-clause-within : goal.returns-clause-within
-unfolding decimal_text
-returns-clause-within c = omega arith

@@ -1,5 +1,5 @@
 -- `lines::digits::put_digits` meets its contract. Assumes nothing.
-use Rattle.std.proofs.Common.{◌≡◌, ℕ, ◌+◌, ◌-◌, ◌/◌, ◌≤◌, set, sym, refl, ap, ◌∙◌, mod-lt, arith, rules}
+use Rattle.std.proofs.Common.{◌≡◌, ℕ, ◌+◌, ◌-◌, ◌/◌, set, sym, refl, ap, ◌∙◌, mod-lt, arith, rules}
 use Rattle.lines.specs.Text.{digits_of, overwrite}
 use Rattle.lines.proofs.Texts.{digit-stored}
 use Rattle.lines.proofs.digits.put_digits.Goals as goal

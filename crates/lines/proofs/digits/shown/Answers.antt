@@ -1,6 +1,6 @@
 -- `lines::digits::shown` meets its contract: a zero, and any other number. Assumes nothing.
 use Prim.Native.Nat as Nat
-use Rattle.std.proofs.Common.{◌≡◌, suc, true, false, ℤ, sym, refl, ap, ◌∙◌, true≢false, zero-mul, rules}
+use Rattle.std.proofs.Common.{◌≡◌, suc, true, false, ℤ, sym, refl, ap, ◌∙◌, true≢false, zero-mul}
 use lib.Ieee.{Float, binary32, eq, fin, inf, nan, of_bits, to_bits}
 use mathlib.Core.Bool.{false≢true}
 use native.Mathlib.Nat.{zero-div}

@@ -1,10 +1,10 @@
 -- `lines::flown::fly_ticks` meets its contract. Assumes nothing.
-use Rattle.std.proofs.Common.{◌≡◌, ◌+◌, ◌-◌, ◌*◌, ◌≤◌, length, subst, arith, rules}
+use Rattle.std.proofs.Common.{◌≡◌, ◌+◌, ◌-◌, ◌*◌, ◌≤◌, length}
 use Rattle.lines.specs.Page.{line_bytes, page_bytes}
-use Rattle.trace.proofs.Trace.{after, after-all, after_more}
-use Rattle.trace.specs.Trace.{tick_count, ticks_from}
-use Rattle.lines.specs.TickLog.{TickLog, log_from, log_of, log_on}
-use Rattle.lines.proofs.TickLogs.{Reached, reached-more, reached-none}
+use Rattle.trace.proofs.Trace.{after}
+use Rattle.trace.specs.Trace.{tick_count}
+use Rattle.lines.specs.TickLog.{log_from, log_on}
+use Rattle.lines.proofs.TickLogs.{Reached}
 use Rattle.lines.proofs.flown.fly_ticks.Given as goal
 
 abbrev pub invariant-loop-i : goal.invariant-loop-i

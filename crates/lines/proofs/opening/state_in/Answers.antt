@@ -1,5 +1,5 @@
 -- `lines::opening::state_in` meets its contract. Assumes nothing.
-use Rattle.std.proofs.Common.{sym, length-take-le, rules}
+use Rattle.std.proofs.Common.{sym, length-take-le}
 use Rattle.lines.proofs.opening.state_in.Goals as goal
 
 pub slice_bounds-read_full_state-end : goal.slice_bounds-read_full_state-end

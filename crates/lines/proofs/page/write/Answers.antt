@@ -1,5 +1,5 @@
 -- `lines::page::write` meets its contract. Assumes nothing.
-use Rattle.std.proofs.Common.{sym, length-take-le, rules}
+use Rattle.std.proofs.Common.{sym, length-take-le}
 use Rattle.lines.proofs.page.write.Goals as goal
 
 pub slice_bounds-write_all-end : goal.slice_bounds-write_all-end

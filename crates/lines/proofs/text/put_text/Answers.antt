@@ -1,5 +1,5 @@
 -- `lines::text::put_text` meets its contract. Assumes nothing.
-use Rattle.std.proofs.Common.{◌≡◌, ℕ, ◌+◌, ◌-◌, ◌≤◌, List, length, get_or, take, set, sym, refl, ap, ◌∙◌, add-one, arith, rules}
+use Rattle.std.proofs.Common.{◌≡◌, ℕ, ◌+◌, List, length, get_or, take, set, sym, refl, ap, ◌∙◌, add-one, arith, rules}
 use lib.Seq.{take-length}
 use Rattle.lines.specs.Text.{overwrite}
 use Rattle.lines.proofs.Texts.{byte-stored}

@@ -1,5 +1,5 @@
 -- `lines::track::counted` meets its contract. Assumes nothing.
-use Rattle.std.proofs.Common.{sym, ◌∙◌, rules}
+use Rattle.std.proofs.Common.{sym, ◌∙◌}
 use Rattle.lines.specs.TickLog.{one_more}
 use Rattle.lines.specs.Tracks.{count_of}
 use Rattle.lines.proofs.track.counted.Goals as goal

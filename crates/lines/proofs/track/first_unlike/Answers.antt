@@ -1,5 +1,5 @@
 -- `lines::track::first_unlike` meets its contract. Assumes nothing.
-use Rattle.std.proofs.Common.{sym, ◌∙◌, rules, eq-eqb, ne_eqb}
+use Rattle.std.proofs.Common.{sym, ◌∙◌, eq-eqb, ne_eqb}
 use Rattle.lines.specs.Tracks.{unlike_of}
 use Rattle.lines.proofs.track.first_unlike.Goals as goal
 

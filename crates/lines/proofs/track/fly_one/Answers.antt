@@ -1,5 +1,5 @@
 -- `lines::track::fly_one` meets its contract. Assumes nothing.
-use Rattle.std.proofs.Common.{◌≡◌, ℕ, ap, ◌∙◌, arith, rules}
+use Rattle.std.proofs.Common.{◌≡◌, ℕ, ap, ◌∙◌, arith}
 use Rattle.airframe.specs.Reflection.{reflect_airframe}
 use Rattle.airframe.specs.declared.Airframe.{Airframe}
 use Rattle.flight.specs.Reflection.{reflect_tick}

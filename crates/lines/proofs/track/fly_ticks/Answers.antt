@@ -1,11 +1,9 @@
 -- `lines::track::fly_ticks` meets its contract. Assumes nothing.
-use Rattle.std.proofs.Common.{◌≡◌, ◌-◌, ◌*◌, ◌≤◌, List, [], length, refl, ap, ◌∙◌, subst, arith, rules}
-use Rattle.lines.specs.Page.{line_bytes}
+use Rattle.std.proofs.Common.{[], refl, ap, ◌∙◌, arith, rules}
 use Rattle.trace.proofs.Trace.{after, after-all, after_more}
-use Rattle.trace.specs.Tick.{tick_bytes}
-use Rattle.trace.specs.Trace.{tick_count, ticks_from}
+use Rattle.trace.specs.Trace.{ticks_from}
 use Rattle.lines.specs.Tracks.{Shown, Tracks, shown_on, shown_over, text_on, tracks_of, tracks_on}
-use Rattle.lines.proofs.Texts.{Put, as-put, nothing_put, same_text, then}
+use Rattle.lines.proofs.Texts.{as-put, nothing_put, same_text, then}
 use Rattle.lines.proofs.track.fly_ticks.Goals as goal
 
 pub loop-i-init : goal.loop-i-init

@@ -1,11 +1,11 @@
 -- `lines::track::fly_ticks` meets its contract. Assumes nothing.
-use Rattle.std.proofs.Common.{◌≡◌, ◌-◌, ◌*◌, ◌≤◌, List, [], length, refl, ap, ◌∙◌, subst, arith, rules}
+use Rattle.std.proofs.Common.{◌≡◌, ◌-◌, ◌*◌, ◌≤◌, [], length}
 use Rattle.lines.specs.Page.{line_bytes}
-use Rattle.trace.proofs.Trace.{after, after-all, after_more}
+use Rattle.trace.proofs.Trace.{after}
 use Rattle.trace.specs.Tick.{tick_bytes}
-use Rattle.trace.specs.Trace.{tick_count, ticks_from}
-use Rattle.lines.specs.Tracks.{Shown, Tracks, shown_on, shown_over, text_on, tracks_of, tracks_on}
-use Rattle.lines.proofs.Texts.{Put, as-put, nothing_put, same_text, then}
+use Rattle.trace.specs.Trace.{tick_count}
+use Rattle.lines.specs.Tracks.{shown_on, tracks_of}
+use Rattle.lines.proofs.Texts.{Put}
 use Rattle.lines.proofs.track.fly_ticks.Given as goal
 
 abbrev pub invariant-loop-i : goal.invariant-loop-i

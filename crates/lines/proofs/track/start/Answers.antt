@@ -1,5 +1,4 @@
 -- `lines::track::start` meets its contract. Assumes nothing.
-use Rattle.std.proofs.Common.{rules}
 use Rattle.lines.specs.Tracks.{tracks_at_start}
 use Rattle.lines.proofs.track.start.Goals as goal
 
