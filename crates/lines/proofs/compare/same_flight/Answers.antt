@@ -4,7 +4,7 @@ use Rattle.lines.proofs.compare.same_flight.Goals as goal
 
 pub returns : goal.returns
 unfolding same_flight
-returns c = 
+returns c =
     let s = c in
     simp (
       c.both-4.ensures,

@@ -11,7 +11,7 @@ loop-i-init c = (search rules, refl)
 
 pub loop-i-preserved : goal.loop-i-preserved
 unfolding same_slot
-loop-i-preserved c = 
+loop-i-preserved c =
     let s = c in (
       search rules,
       pass-more _ s.loop-i.i s.loop-i.ok _ s.loop-i.invariant.1

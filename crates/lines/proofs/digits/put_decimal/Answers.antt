@@ -11,8 +11,7 @@ returns-clause-page c = cc
 pub returns-clause-end : goal.returns-clause-end
 unfolding decimal_text
 returns-clause-end c = omega (
-      arith,
-      c.digit_count-k.ensures.count,
-      length_digits 10 (digit_count 19 c.args.n) c.args.n,
-    )
-
+  arith,
+  c.digit_count-k.ensures.count,
+  length_digits 10 (digit_count 19 c.args.n) c.args.n,
+)

@@ -8,12 +8,12 @@ pub loop-i-init : goal.loop-i-init
 loop-i-init c = (search rules, refl)
 
 pub glyph-requires : goal.glyph-requires
-glyph-requires c = 
+glyph-requires c =
     let l = c.loop-i in
     omega (arith, mod-lt l.rest c.requires.nonzero)
 
 pub loop-i-preserved : goal.loop-i-preserved
-loop-i-preserved c = 
+loop-i-preserved c =
     let l = c.loop-i in
     let a = c.args in (
       search rules,
@@ -24,7 +24,7 @@ loop-i-preserved c =
 
 pub returns : goal.returns
 unfolding digits_of overwrite
-returns c = 
+returns c =
     let l = c.loop-i in
     let a = c.args in
     let none : l.i ≡ 0 = omega arith in

@@ -6,7 +6,7 @@ use Rattle.lines.proofs.digits.put_word.Goals as goal
 
 pub returns : goal.returns
 unfolding word_text
-returns c = 
+returns c =
     let b = c.put_byte-digits in
     let bits = c.wide in
     let digits =

@@ -8,7 +8,7 @@ use Rattle.lines.proofs.flown.fly_one.Goals as goal
 
 pub returns : goal.returns
 unfolding one_more tick_text
-returns c = 
+returns c =
     let a = c.args in
     let done = c.tick-done in
     let next = c.wrapping_add_u64-index in

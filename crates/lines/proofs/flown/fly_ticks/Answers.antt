@@ -11,7 +11,7 @@ unfolding ticks_from
 loop-i-init c = (search rules, search rules, search rules, search rules, reached-none _ _ _)
 
 pub loop-i-preserved : goal.loop-i-preserved
-loop-i-preserved c = 
+loop-i-preserved c =
     let l = c.loop-i in
     let a = c.args in
     let f = c.fly_one-flown.ensures in
@@ -28,7 +28,7 @@ loop-i-preserved c =
 
 pub returns : goal.returns
 unfolding log_of
-returns c = 
+returns c =
     let l = c.loop-i in
     let a = c.args in
     let start : TickLog = log_from a.p.flight a.p.index in

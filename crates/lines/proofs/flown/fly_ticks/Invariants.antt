@@ -8,7 +8,7 @@ use Rattle.lines.proofs.TickLogs.{Reached}
 use Rattle.lines.proofs.flown.fly_ticks.Given as goal
 
 abbrev pub invariant-loop-i : goal.invariant-loop-i
-invariant-loop-i l =     let start = log_from l.initial.flown.flight l.initial.flown.index in
+invariant-loop-i l = let start = log_from l.initial.flown.flight l.initial.flown.index in
     (l.i ≤ l.count)
     × (l.count ≡ tick_count l.trace)
     × (l.flown.at ≤ line_bytes * l.i)

@@ -6,7 +6,7 @@ use Rattle.lines.proofs.line.put_attitude.Goals as goal
 
 pub returns : goal.returns
 unfolding attitude_text
-returns c = 
+returns c =
     let q = c.args.q in
     let w = as-put _ _ (word_text q.w) _ _ c.put_word-i.ensures.page c.put_word-i.ensures.end in
     let i = as-put _ _ (word_text q.i) _ _ c.put_word-j.ensures.page c.put_word-j.ensures.end in

@@ -6,7 +6,7 @@ use Rattle.lines.proofs.line.put_body.Goals as goal
 
 pub returns : goal.returns
 unfolding body_text
-returns c = 
+returns c =
     let b = c.args.b in
     let position = as-put _ _ (vec_text b.position_ned_m) _ _ c.put_vec-velocity.ensures.page c.put_vec-velocity.ensures.end in
     let velocity = as-put _ _ (vec_text b.velocity_ned_mps) _ _ c.put_vec-attitude.ensures.page c.put_vec-attitude.ensures.end in

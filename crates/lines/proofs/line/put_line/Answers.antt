@@ -6,7 +6,7 @@ use Rattle.lines.proofs.line.put_line.Goals as goal
 
 pub returns : goal.returns
 unfolding line_text
-returns c = 
+returns c =
     let a = c.args in
     let index = as-put _ _ (decimal_text a.index) _ _ c.put_decimal-rest.ensures.page c.put_decimal-rest.ensures.end in
     let rest = as-put _ _ (rest_text a.answer a.f) _ _ c.put_rest.ensures.page c.put_rest.ensures.end in

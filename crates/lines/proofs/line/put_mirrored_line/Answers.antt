@@ -6,7 +6,7 @@ use Rattle.lines.proofs.line.put_mirrored_line.Goals as goal
 
 pub returns : goal.returns
 unfolding mirrored_text
-returns c = 
+returns c =
     let a = c.args in
     let index = as-put _ _ (decimal_text a.index) _ _ c.put_decimal-mark.ensures.page c.put_decimal-mark.ensures.end in
     let mark = as_byte _ _ _ _ _ c.put_byte-rest.ensures.page c.put_byte-rest.ensures.end in

@@ -6,7 +6,7 @@ use Rattle.lines.proofs.line.put_rest.Goals as goal
 
 pub returns : goal.returns
 unfolding rest_text
-returns c = 
+returns c =
     let b = c in
     let d = b.before.before in
     let space = as_byte _ _ _ _ _ c.put_byte-number.ensures.page c.put_byte-number.ensures.end in

@@ -6,7 +6,7 @@ use Rattle.lines.proofs.line.put_vec.Goals as goal
 
 pub returns : goal.returns
 unfolding vec_text
-returns c = 
+returns c =
     let v = c.args.v in
     let x = as-put _ _ (word_text v.x) _ _ c.put_word-y.ensures.page c.put_word-y.ensures.end in
     let y = as-put _ _ (word_text v.y) _ _ c.put_word-z.ensures.page c.put_word-z.ensures.end in

@@ -6,7 +6,7 @@ use Rattle.lines.proofs.Texts.{as-put, end-cut, end_whole, nothing_put, same_tex
 use Rattle.lines.proofs.page.put_end.Goals as goal
 
 pub returns-then-n-eq0 : goal.returns-then-n-eq0
-returns-then-n-eq0 c = 
+returns-then-n-eq0 c =
     let a = c.args in
     let all = same_text (end_whole a.n c.if-n-eq0.true) (nothing_put a.out.now a.at) in
     record {
@@ -16,7 +16,7 @@ returns-then-n-eq0 c =
     }
 
 pub returns : goal.returns
-returns c = 
+returns c =
     let a = c.args in
     let all = same_text (end-cut a.n c.if-n-eq0.false) (as-put _ _ (refusal_text WrongLength) _ _ c.put_refusal.ensures.page c.put_refusal.ensures.end) in
     record {

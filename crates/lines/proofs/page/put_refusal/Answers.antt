@@ -6,7 +6,7 @@ use Rattle.lines.proofs.page.put_refusal.Goals as goal
 
 pub returns : goal.returns
 unfolding refusal_text
-returns c = 
+returns c =
     let d = c in
     let e = c in
     let zero = as_byte _ _ _ _ _ c.put_byte-behind_0.ensures.page c.put_byte-behind_0.ensures.end in

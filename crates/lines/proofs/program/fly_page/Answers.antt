@@ -5,7 +5,7 @@ use Rattle.lines.proofs.program.fly_page.Goals as goal
 
 pub returns-then-beside : goal.returns-then-beside
 unfolding page_text tracks_over
-returns-then-beside c = 
+returns-then-beside c =
     let e = c.fly_ticks.ensures in
     let b = c.if-beside.true in
     record {
@@ -17,7 +17,7 @@ returns-then-beside c =
 
 pub returns : goal.returns
 unfolding page_text tracks_over
-returns c = 
+returns c =
     let f = c in
     let e = f.fly_ticks-flown.ensures in
     let b = f.if-beside.false in

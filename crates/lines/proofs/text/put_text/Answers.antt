@@ -10,7 +10,7 @@ unfolding overwrite
 loop-i-init c = (search rules, refl)
 
 pub loop-i-preserved : goal.loop-i-preserved
-loop-i-preserved c = 
+loop-i-preserved c =
     let l = c.loop-i in
     let a = c.args in (
       search rules,
@@ -20,7 +20,7 @@ loop-i-preserved c =
     )
 
 pub returns : goal.returns
-returns c = 
+returns c =
     let l = c.loop-i in
     let a = c.args in
     let all : l.i ≡ length a.text.now = omega arith in record {

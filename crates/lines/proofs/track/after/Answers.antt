@@ -6,4 +6,3 @@ use Rattle.lines.proofs.track.after.Goals as goal
 pub returns-clause-tracks : goal.returns-clause-tracks
 unfolding tracks_after one_more
 returns-clause-tracks c = cc
-

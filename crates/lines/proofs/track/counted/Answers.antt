@@ -6,7 +6,7 @@ use Rattle.lines.proofs.track.counted.Goals as goal
 
 pub returns-then-is_done : goal.returns-then-is_done
 unfolding count_of one_more
-returns-then-is_done c = 
+returns-then-is_done c =
     let done = c.is_done in
     c.wrapping_add_u64.ensures.value ∙ sym (simp (sym done.ensures ∙ c.if-is_done.true))
 

@@ -9,12 +9,12 @@ returns-then-differs-ne0 c = simp (ne_eqb _ _ c.if-differs-ne0.true)
 
 pub returns-then-is_mirrored : goal.returns-then-is_mirrored
 unfolding unlike_of
-returns-then-is_mirrored c = 
+returns-then-is_mirrored c =
     let m = c.is_mirrored in
     simp (eq-eqb _ _ c.if-differs-ne0.false, sym m.ensures ∙ c.if-is_mirrored.true)
 
 pub returns : goal.returns
 unfolding unlike_of
-returns c = 
+returns c =
     let m = c.is_mirrored in
     simp (eq-eqb _ _ c.if-differs-ne0.false, sym m.ensures ∙ c.if-is_mirrored.false)

@@ -12,7 +12,7 @@ use Rattle.lines.proofs.track.fly_one.Goals as goal
 
 pub returns : goal.returns
 unfolding one_more text_on tracks_on
-returns c = 
+returns c =
     let a = c.args in
     let x = c.tick_by_reference-x in
     let y = c.tick_by_reference-y in

@@ -12,7 +12,7 @@ loop-i-init c = (search rules, search rules, search rules, search rules, refl, n
 
 pub loop-i-preserved : goal.loop-i-preserved
 unfolding shown_on
-loop-i-preserved c = 
+loop-i-preserved c =
     let l = c.loop-i in
     let a = c.args in
     let t = c.tick_at-t in
@@ -37,7 +37,7 @@ loop-i-preserved c =
 
 pub returns : goal.returns
 unfolding shown_over
-returns c = 
+returns c =
     let l = c.loop-i in
     let a = c.args in
     let start : Shown = record { tracks = tracks_of a.p; text = [] } in

@@ -9,7 +9,7 @@ use Rattle.lines.proofs.Texts.{Put}
 use Rattle.lines.proofs.track.fly_ticks.Given as goal
 
 abbrev pub invariant-loop-i : goal.invariant-loop-i
-invariant-loop-i l =     let so_far = after (shown_on l.a) (record { tracks = tracks_of l.initial.pair; text = [] }) l.trace l.i in
+invariant-loop-i l = let so_far = after (shown_on l.a) (record { tracks = tracks_of l.initial.pair; text = [] }) l.trace l.i in
     (l.i ≤ l.count)
     × (l.count ≡ tick_count l.trace)
     × (l.pair.at ≤ 2 * line_bytes * l.i)

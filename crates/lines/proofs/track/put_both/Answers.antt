@@ -7,7 +7,7 @@ use Rattle.lines.proofs.track.put_both.Goals as goal
 
 pub returns : goal.returns
 unfolding pair_text
-returns c = 
+returns c =
     let a = c.args in
     let line = as-put _ _ (line_text a.index a.x.report.answer a.x.flight) _ _ c.put_line-mirrored_line.ensures.page c.put_line-mirrored_line.ensures.end in
     let mirrored = as-put _ _ (mirrored_text a.index a.y.report.answer a.y.flight) _ _ c.put_mirrored_line.ensures.page c.put_mirrored_line.ensures.end in
