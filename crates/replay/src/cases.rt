@@ -28,8 +28,8 @@ fn plain(b: u32) -> u32
 
 // Whether the n words of w from `from` are the numbers at the start of out.
 fn agree(w: &[u32; 192], from: usize, out: &[u32; 64], n: usize) -> bool
-    requires fact_1 { from + n ≤ 192 }
-    requires fact_2 { n ≤ 64 }
+    requires words { from + n ≤ 192 }
+    requires answers { n ≤ 64 }
 {
     let mut i = 0;
     while i < n {

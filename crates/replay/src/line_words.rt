@@ -89,8 +89,8 @@ fn step(s: &[u8], l: Line, w: &mut [u32; 192]) -> Line
 // The words of the line s, in order, at the start of w.
 pub fn read(s: &[u8], w: &mut [u32; 192]) -> Line
     requires { length s.now ≤ page_bytes }
-    ensures fact_1 { result.inputs ≤ result.count }
-    ensures fact_2 { result.count ≤ 192 }
+    ensures inputs { result.inputs ≤ result.count }
+    ensures count { result.count ≤ 192 }
 {
     let mut l = Line {
         at: 0,

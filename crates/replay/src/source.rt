@@ -22,10 +22,10 @@ pub fn start() -> Source
 
 // Where the line at `at` ends: at its newline, or at `end` where none follows.
 pub fn line_end(buf: &[u8; PAGE_BYTES], at: usize, end: usize) -> usize
-    requires fact_1 { at ≤ end }
-    requires fact_2 { end ≤ page_bytes }
-    ensures fact_1 { at ≤ result }
-    ensures fact_2 { result ≤ end }
+    requires order { at ≤ end }
+    requires within { end ≤ page_bytes }
+    ensures low { at ≤ result }
+    ensures high { result ≤ end }
 {
     let mut i = at;
     while i < end {
@@ -39,8 +39,8 @@ pub fn line_end(buf: &[u8; PAGE_BYTES], at: usize, end: usize) -> usize
 
 // Moves the bytes from `at` to `end` to the buffer's start.
 fn to_front(buf: &mut [u8; PAGE_BYTES], at: usize, end: usize)
-    requires fact_1 { at ≤ end }
-    requires fact_2 { end ≤ page_bytes }
+    requires order { at ≤ end }
+    requires within { end ≤ page_bytes }
 {
     let mut i = at;
     while i < end {

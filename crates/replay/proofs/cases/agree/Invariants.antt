@@ -1,5 +1,5 @@
 -- `replay::cases::agree` meets its contract. Assumes nothing.
-use Rattle.std.proofs.Common.{◌-◌, ◌≤◌, rules}
+use Rattle.std.proofs.Common.{◌-◌, ◌≤◌}
 use Rattle.replay.proofs.cases.agree.Given as goal
 
 abbrev pub invariant-loop-i : goal.invariant-loop-i

@@ -1,6 +1,6 @@
 -- `replay::cases::plain` meets its contract: a zero, and any other number. Assumes nothing.
 use Prim.Native.Nat as Nat
-use Rattle.std.proofs.Common.{◌≡◌, suc, true, false, ℤ, sym, refl, ap, ◌∙◌, true≢false, zero-mul, rules}
+use Rattle.std.proofs.Common.{◌≡◌, suc, true, false, ℤ, sym, refl, ap, ◌∙◌, true≢false, zero-mul}
 use lib.Ieee.{Float, binary32, eq, fin, inf, nan, of_bits, to_bits}
 use mathlib.Core.Bool.{false≢true}
 use native.Mathlib.Nat.{zero-div}
@@ -31,6 +31,6 @@ pub returns-then-x : goal.returns-then-x
 returns-then-x c = simp (← c.from_bits-x.ensures) (of_zero c.from_bits-x.result (unfold of_bits in c.if-x.true))
 
 pub returns : goal.returns
-returns c = 
+returns c =
     c.to_bits.ensures ∙ simp (← c.from_bits-x.ensures)
     (ap (to_bits binary32) (of_other c.from_bits-x.result (unfold of_bits in c.if-x.false)))

@@ -1,5 +1,5 @@
 -- `replay::flights::decode` meets its contract. Assumes nothing.
-use Rattle.std.proofs.Common.{◌-◌, ◌/◌, ◌≤◌, rules}
+use Rattle.std.proofs.Common.{◌-◌, ◌/◌, ◌≤◌}
 use Rattle.lines.specs.Page.{page_bytes}
 use Rattle.replay.proofs.flights.decode.Given as goal
 

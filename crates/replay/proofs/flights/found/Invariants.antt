@@ -1,5 +1,5 @@
 -- `replay::flights::found` meets its contract. Assumes nothing.
-use Rattle.std.proofs.Common.{◌-◌, ◌<◌, ◌≤◌, rules}
+use Rattle.std.proofs.Common.{◌-◌, ◌<◌, ◌≤◌}
 use Rattle.lines.specs.Page.{page_bytes}
 use Rattle.replay.proofs.flights.found.Given as goal
 

@@ -1,5 +1,5 @@
 -- `replay::line_words::read` meets its contract. Assumes nothing.
-use Rattle.std.proofs.Common.{◌-◌, ◌≤◌, length, rules}
+use Rattle.std.proofs.Common.{◌-◌, ◌≤◌, length}
 use Rattle.replay.proofs.line_words.read.Given as goal
 
 abbrev pub invariant-loop-l : goal.invariant-loop-l

@@ -1,5 +1,5 @@
 -- `replay::source::to_front` meets its contract. Assumes nothing.
-use Rattle.std.proofs.Common.{◌-◌, ◌≤◌, rules}
+use Rattle.std.proofs.Common.{◌-◌, ◌≤◌}
 use Rattle.replay.proofs.source.to_front.Given as goal
 
 abbrev pub invariant-loop-i : goal.invariant-loop-i

@@ -1,5 +1,4 @@
 -- `replay::words::is_pair` meets its contract. Assumes nothing.
-use Rattle.std.proofs.Common.{rules}
 use borrow.Author.Tests.{not-false, not-true}
 use Rattle.replay.specs.Words.{is_pair}
 use Rattle.replay.proofs.words.is_pair.Goals as goal
@@ -10,7 +9,7 @@ returns-then-not-is_digit c = simp (← c.is_digit.ensures, not-true c.is_digit.
 
 pub returns : goal.returns
 unfolding is_pair
-returns c = 
+returns c =
     simp (
       ← c.is_digit-2.ensures,
       ← c.is_digit.ensures,

@@ -1,5 +1,4 @@
 -- `replay::words::is_word` meets its contract. Assumes nothing.
-use Rattle.std.proofs.Common.{rules}
 use borrow.Author.Tests.{not-false, not-true}
 use Rattle.replay.specs.Words.{is_word}
 use Rattle.replay.proofs.words.is_word.Goals as goal
@@ -10,7 +9,7 @@ returns-then-not-is_pair c = simp (← c.is_pair.ensures, not-true c.is_pair.res
 
 pub returns-then-not-is_pair-2 : goal.returns-then-not-is_pair-2
 unfolding is_word
-returns-then-not-is_pair-2 c = 
+returns-then-not-is_pair-2 c =
     simp (
       ← c.is_pair-2.ensures,
       ← c.is_pair.ensures,
@@ -20,7 +19,7 @@ returns-then-not-is_pair-2 c =
 
 pub returns-then-not-is_pair-3 : goal.returns-then-not-is_pair-3
 unfolding is_word
-returns-then-not-is_pair-3 c = 
+returns-then-not-is_pair-3 c =
     simp (
       ← c.is_pair-3.ensures,
       ← c.is_pair-2.ensures,
@@ -32,7 +31,7 @@ returns-then-not-is_pair-3 c =
 
 pub returns : goal.returns
 unfolding is_word
-returns c = 
+returns c =
     simp (
       ← c.is_pair-4.ensures,
       ← c.is_pair-3.ensures,
