@@ -1,11 +1,10 @@
 -- `replay::words::is_pair` meets its contract. Assumes nothing.
-use borrow.Author.Tests.{not-false, not-true}
 use Rattle.replay.specs.Words.{is_pair}
 use Rattle.replay.proofs.words.is_pair.Goals as goal
 
 pub returns-then-not-is_digit : goal.returns-then-not-is_digit
 unfolding is_pair
-returns-then-not-is_digit c = simp (← c.is_digit.ensures, not-true c.is_digit.result c.if-not-is_digit.true-raw)
+returns-then-not-is_digit c = simp (← c.is_digit.ensures, c.if-not-is_digit.true)
 
 pub returns : goal.returns
 unfolding is_pair
@@ -13,5 +12,5 @@ returns c =
     simp (
       ← c.is_digit-2.ensures,
       ← c.is_digit.ensures,
-      not-false c.is_digit.result c.if-not-is_digit.false-raw,
+      c.if-not-is_digit.false,
     )

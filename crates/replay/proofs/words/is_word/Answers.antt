@@ -1,11 +1,10 @@
 -- `replay::words::is_word` meets its contract. Assumes nothing.
-use borrow.Author.Tests.{not-false, not-true}
 use Rattle.replay.specs.Words.{is_word}
 use Rattle.replay.proofs.words.is_word.Goals as goal
 
 pub returns-then-not-is_pair : goal.returns-then-not-is_pair
 unfolding is_word
-returns-then-not-is_pair c = simp (← c.is_pair.ensures, not-true c.is_pair.result c.if-not-is_pair.true-raw)
+returns-then-not-is_pair c = simp (← c.is_pair.ensures, c.if-not-is_pair.true)
 
 pub returns-then-not-is_pair-2 : goal.returns-then-not-is_pair-2
 unfolding is_word
@@ -13,8 +12,8 @@ returns-then-not-is_pair-2 c =
     simp (
       ← c.is_pair-2.ensures,
       ← c.is_pair.ensures,
-      not-true c.is_pair-2.result c.if-not-is_pair-2.true-raw,
-      not-false c.is_pair.result c.if-not-is_pair.false-raw,
+      c.if-not-is_pair-2.true,
+      c.if-not-is_pair.false,
     )
 
 pub returns-then-not-is_pair-3 : goal.returns-then-not-is_pair-3
@@ -24,9 +23,9 @@ returns-then-not-is_pair-3 c =
       ← c.is_pair-3.ensures,
       ← c.is_pair-2.ensures,
       ← c.is_pair.ensures,
-      not-true c.is_pair-3.result c.if-not-is_pair-3.true-raw,
-      not-false c.is_pair-2.result c.if-not-is_pair-2.false-raw,
-      not-false c.is_pair.result c.if-not-is_pair.false-raw,
+      c.if-not-is_pair-3.true,
+      c.if-not-is_pair-2.false,
+      c.if-not-is_pair.false,
     )
 
 pub returns : goal.returns
@@ -37,7 +36,7 @@ returns c =
       ← c.is_pair-3.ensures,
       ← c.is_pair-2.ensures,
       ← c.is_pair.ensures,
-      not-false c.is_pair-3.result c.if-not-is_pair-3.false-raw,
-      not-false c.is_pair-2.result c.if-not-is_pair-2.false-raw,
-      not-false c.is_pair.result c.if-not-is_pair.false-raw,
+      c.if-not-is_pair-3.false,
+      c.if-not-is_pair-2.false,
+      c.if-not-is_pair.false,
     )
