@@ -2,6 +2,6 @@
 // "Flown by hand").
 #![tactic(auto)]
 
-fn main() {
-    lines::fly_file(b"fly", false);
+fn main(rt: HostRuntime) {
+    lines::fly_file(&rt, b"fly", false);
 }

@@ -26,13 +26,12 @@ pub record Put (p : List ℕ) (at : ℕ) (text q : List ℕ) (end : ℕ) : Type 
 
 -- what the functions that put a text promise
 pub as-put :
-    (p : List ℕ) (at : ℕ) (text q : List ℕ) (end most : ℕ) → (q ≡ overwrite p at text) × ((end ≡ at + length text) × (end ≤ most))
-    → Put p at text q end
-as-put p at text q end most h = record { page = h.0; next = h.1.0 }
+    (p : List ℕ) (at : ℕ) (text q : List ℕ) (end : ℕ) → q ≡ overwrite p at text → end ≡ at + length text → Put p at text q end
+as-put p at text q end h k = record { page = h; next = k }
 
 pub as_byte :
-    (p : List ℕ) (at b : ℕ) (q : List ℕ) (end : ℕ) → (q ≡ overwrite p at (byte_text b)) × (end ≡ at + 1) → Put p at (byte_text b) q end
-as_byte p at b q end h = record { page = h.0; next = h.1 }
+    (p : List ℕ) (at b : ℕ) (q : List ℕ) (end : ℕ) → q ≡ overwrite p at (byte_text b) → end ≡ at + 1 → Put p at (byte_text b) q end
+as_byte p at b q end h k = record { page = h; next = k }
 
 -- no text
 pub nothing_put : (p : List ℕ) (at : ℕ) → Put p at [] p at

@@ -1,7 +1,7 @@
 -- The program's verdict is the theorem's (run/specs/Mirrored.antt). Where the theorem's `Agree` holds of a tick in both flights,
 -- `mirrored_tick` is true of it; where that is true, the numbers that it looks at are related as the theorem relates them; and so the
 -- program finds no tick that differs, whatever it flies. Assumes nothing.
-use Rattle.std.proofs.Common.{◌≡◌, ℕ, ◌<◌, Bool, true, false, List, [], ◌∷◌, sym, refl, ap, ◌∙◌, true≢false, eq-eqb, eqb-true}
+use Rattle.std.proofs.Common.{◌≡◌, ℕ, ◌<◌, Bool, true, false, List, [], ◌∷◌, sym, refl, ap, true≢false, eq-eqb, eqb-true}
 use lib.Ieee.{Float}
 use mathlib.Core.List.{foldl}
 use Rattle.airframe.proofs.Mirror.{reflect-airframe}
@@ -16,7 +16,6 @@ use Rattle.flight.specs.State.{body_of}
 use Rattle.flight.specs.declared.Flight.{Flight}
 use Rattle.flight.specs.declared.Tick.{Tick}
 use Rattle.float.proofs.Mirror.{r-is}
-use Rattle.float.specs.Same.{Opposite, Same}
 use Rattle.mixers.specs.Slots.{at}
 use Rattle.ordered.proofs.Ordered.{each-pass, pass-each}
 use Rattle.ordered.specs.Ordered.{all_pass}
@@ -29,7 +28,6 @@ use Rattle.vector.specs.declared.Vec3.{Vec3}
 use Rattle.wing.proofs.Mirror.{tick-mirror}
 use Rattle.wing.specs.Reflection.{TickedRel}
 use Rattle.wing.specs.Tick.{tick_of}
-use Rattle.wing.specs.declared.Report.{Report}
 use Rattle.wing.specs.declared.TickResult.{TickResult}
 use Rattle.lines.proofs.Numbers.{OppositeFloat, SameFloat, is-opposite, is_same, opposite-holds, same-holds}
 use Rattle.lines.specs.Compare.{both, mirrored_report, mirrored_tick, same_attitude, same_body, same_flight, same_slot, same_vec}

@@ -39,9 +39,9 @@ fn glyph(d: u64) -> u8
 
 // Puts the last k digits of n in the base at `at`.
 fn put_digits(out: &mut [u8; PAGE_BYTES], at: usize, n: u64, base: u64, k: usize)
-    requires fact_1 { 0 < base }
-    requires fact_2 { base ≤ 16 }
-    requires fact_3 { at + k ≤ page_bytes }
+    requires nonzero { 0 < base }
+    requires small { base ≤ 16 }
+    requires room { at + k ≤ page_bytes }
     ensures { out.new ≡ overwrite out.old at (digits_of base k n) }
 {
     let mut rest = n;
@@ -57,8 +57,8 @@ fn put_digits(out: &mut [u8; PAGE_BYTES], at: usize, n: u64, base: u64, k: usize
 pub fn put_word(out: &mut [u8; PAGE_BYTES], at: usize, x: f32) -> usize
     requires { at + 9 ≤ page_bytes }
     ensures page { out.new ≡ overwrite out.old at (word_text x) }
-    ensures end_1 { result ≡ at + length (word_text x) }
-    ensures end_2 { result ≤ at + 9 }
+    ensures end { result ≡ at + length (word_text x) }
+    ensures within { result ≤ at + 9 }
 {
     let digits = text::put_byte(out, at, b' ');
     put_digits(out, digits, wide(shown(x)), 16, 8);
@@ -67,8 +67,8 @@ pub fn put_word(out: &mut [u8; PAGE_BYTES], at: usize, x: f32) -> usize
 
 // How many decimal digits n has.
 fn digit_count(n: u64) -> usize
-    ensures fact_1 { result ≡ digit_count 19 n }
-    ensures fact_2 { result ≤ 20 }
+    ensures count { result ≡ digit_count 19 n }
+    ensures within { result ≤ 20 }
 {
     let mut rest = n;
     let mut k = 1;
@@ -86,8 +86,8 @@ fn digit_count(n: u64) -> usize
 pub fn put_decimal(out: &mut [u8; PAGE_BYTES], at: usize, n: u64) -> usize
     requires { at + 20 ≤ page_bytes }
     ensures page { out.new ≡ overwrite out.old at (decimal_text n) }
-    ensures end_1 { result ≡ at + length (decimal_text n) }
-    ensures end_2 { result ≤ at + 20 }
+    ensures end { result ≡ at + length (decimal_text n) }
+    ensures within { result ≤ at + 20 }
 {
     let k = digit_count(n);
     put_digits(out, at, n, 10, k);

@@ -1,46 +1,58 @@
 // What the programs say on standard error.
-ghost use Rattle.std.specs.Prelude.{◌≤◌, length};
-ghost use Rattle.lines.specs.Page.{page_bytes};
+use std::io;
 
-use crate::page::PAGE_BYTES;
-use libc::STDERR_FILENO;
-
-fn say(text: &[u8]) {
-    io::write_all(STDERR_FILENO, text);
+// What cannot be said there is lost.
+fn say(rt: &HostRuntime, text: &[u8]) {
+    let _ = rt.stderr().write_all(text);
 }
 
 // How the program is called.
-pub fn usage(program: &[u8]) {
-    say(b"usage: ");
-    say(program);
-    say(b" [FILE] (without FILE it reads standard input, a file or a pipe)\n");
+pub fn usage(rt: &HostRuntime, program: &[u8]) {
+    say(rt, b"usage: ");
+    say(rt, program);
+    say(
+        rt,
+        b" [FILE] (without FILE it reads standard input, a file or a pipe)\n",
+    );
 }
 
-// What the program cannot do with the file whose name is the first n bytes of `name`, and the system's reason.
-fn because(program: &[u8], what: &[u8], name: &[u8], n: usize)
-    requires { n ≤ length name.now }
-{
-    say(program);
-    say(what);
-    os::fail(&name[..n]);
+// The error in the system's words, without its number, which std puts behind them.
+fn say_reason(rt: &HostRuntime, error: io::Error) {
+    match format!(in rt.alloc(); "{error}") {
+        Ok(text) => {
+            let words = text.as_str();
+            match words.split_once(" (os error ") {
+                Some((reason, _)) => say(rt, reason.as_bytes()),
+                None => say(rt, words.as_bytes()),
+            }
+        }
+        Err(_) => {
+            let _ = rt.eprint(error);
+        }
+    }
+}
+
+// What the program cannot do with the file of that name, and the system's reason.
+fn because(rt: &HostRuntime, program: &[u8], what: &[u8], name: &[u8], error: io::Error) {
+    say(rt, program);
+    say(rt, what);
+    say(rt, name);
+    say(rt, b": ");
+    say_reason(rt, error);
+    say(rt, b"\n");
 }
 
 // The file cannot be opened.
-pub fn unopened(program: &[u8], name: &[u8; PAGE_BYTES], n: usize)
-    requires { n ≤ page_bytes }
-{
-    because(program, b": cannot open ", name, n);
+pub fn unopened(rt: &HostRuntime, program: &[u8], name: &[u8], error: io::Error) {
+    because(rt, program, b": cannot open ", name, error);
 }
 
 // The file cannot be read to its end.
-pub fn unread(program: &[u8], name: &[u8; PAGE_BYTES], n: usize)
-    requires { n ≤ page_bytes }
-{
-    because(program, b": cannot read ", name, n);
+pub fn unread(rt: &HostRuntime, program: &[u8], name: &[u8], error: io::Error) {
+    because(rt, program, b": cannot read ", name, error);
 }
 
 // The lines cannot be written.
-pub fn unwritten(program: &[u8]) {
-    say(program);
-    os::fail(b": cannot write standard output");
+pub fn unwritten(rt: &HostRuntime, program: &[u8], error: io::Error) {
+    because(rt, program, b": cannot write ", b"standard output", error);
 }

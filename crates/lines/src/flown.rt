@@ -11,7 +11,7 @@ use airframe::Airframe;
 use flight::{Flight, Tick};
 
 // The state after the ticks flown, how many they were, and where the lines on the page end.
-#[derive(Drop)]
+#[derive(Clone, Copy)]
 pub struct Flown {
     pub flight: Flight,
     pub index: u64,
@@ -20,9 +20,9 @@ pub struct Flown {
 
 // Before the first tick.
 pub fn start(f: Flight) -> Flown
-    ensures fact_1 { result.flight ≡ f }
-    ensures fact_2 { result.index ≡ 0 }
-    ensures fact_3 { result.at ≡ 0 }
+    ensures flight { result.flight ≡ f }
+    ensures index { result.index ≡ 0 }
+    ensures at { result.at ≡ 0 }
 {
     Flown {
         flight: f,
@@ -34,11 +34,11 @@ pub fn start(f: Flight) -> Flown
 // Flies one tick, and puts its line on the page.
 fn fly_one(a: Airframe, p: Flown, t: Tick, out: &mut [u8; PAGE_BYTES]) -> Flown
     requires { p.at + line_bytes ≤ page_bytes }
-    ensures out_after { out.new ≡ overwrite out.old p.at (tick_text a p.flight (one_more p.index) t) }
-    ensures state_1 { result.flight ≡ (tick_of a p.flight t).flight }
-    ensures state_2 { result.index ≡ one_more p.index }
-    ensures end_1 { result.at ≡ p.at + length (tick_text a p.flight (one_more p.index) t) }
-    ensures end_2 { result.at ≤ p.at + line_bytes }
+    ensures page { out.new ≡ overwrite out.old p.at (tick_text a p.flight (one_more p.index) t) }
+    ensures flight { result.flight ≡ (tick_of a p.flight t).flight }
+    ensures index { result.index ≡ one_more p.index }
+    ensures end { result.at ≡ p.at + length (tick_text a p.flight (one_more p.index) t) }
+    ensures within { result.at ≤ p.at + line_bytes }
 {
     let done = wing::tick(a, p.flight, t);
     let report = done.report;
@@ -56,8 +56,8 @@ pub fn fly_ticks(a: Airframe, p: Flown, trace: &[u8], out: &mut [u8; PAGE_BYTES]
     ensures page { out.new ≡ overwrite out.old 0 (log_over a p trace.now).text }
     ensures flight { result.flight ≡ (log_over a p trace.now).flight }
     ensures index { result.index ≡ (log_over a p trace.now).index }
-    ensures end_1 { result.at ≡ length (log_over a p trace.now).text }
-    ensures end_2 { result.at + line_bytes ≤ page_bytes }
+    ensures end { result.at ≡ length (log_over a p trace.now).text }
+    ensures within { result.at + line_bytes ≤ page_bytes }
     ensures room { result.at ≤ 2 * length trace.now }
 {
     let count = trace::tick_count(trace);

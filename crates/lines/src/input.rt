@@ -4,8 +4,11 @@ ghost use Rattle.lines.specs.Asked.{asked_by};
 ghost use Rattle.lines.specs.Page.{page_bytes};
 
 use crate::page::PAGE_BYTES;
-use crate::{errors, text};
-use libc::STDIN_FILENO;
+use std::env::FillError;
+use std::fs::File;
+use std::io;
+use std::io::Read;
+use std::rt::Env;
 
 // What the program is asked to read: the file that its argument names, standard input, or nothing.
 #[derive(Clone, Copy)]
@@ -16,7 +19,7 @@ pub enum Asked {
 }
 
 // By how many words the program was called with, its own name among them, and whether standard input is a terminal.
-fn asked_for(words: usize, terminal: bool) -> Asked
+pub fn asked_for(words: usize, terminal: bool) -> Asked
     ensures { result ≡ asked_by words terminal }
 {
     if words > 2 {
@@ -31,84 +34,94 @@ fn asked_for(words: usize, terminal: bool) -> Asked
     Asked::StandardInput
 }
 
-// The descriptor of the input, below 0 where there is none, and how long its name is.
-#[derive(Drop)]
-pub struct Input {
-    pub fd: i32,
-    pub named: usize,
-}
-
-// Opens the file whose name is the first n bytes of `name`.
-fn open_named(name: &[u8], n: usize) -> i32
-    requires { n ≤ length name.now }
-{
-    os::open_read(&name[..n])
-}
-
-// Opens the file that the first argument names.
-fn open_file(program: &[u8], name: &mut [u8; PAGE_BYTES]) -> Input
-    ensures { result.named ≤ page_bytes }
-{
-    let named = os::arg(1, name);
-    let fd = open_named(name, named);
-    if fd < 0 {
-        errors::unopened(program, name, named);
+// Whether the program was called with a word i, its own name being word 0.
+fn has_word(rt: &HostRuntime, i: usize) -> bool {
+    let mut start = [0u8; 1];
+    match rt.arg(i, &mut start) {
+        Err(FillError::NotPresent) => false,
+        _ => true,
     }
-    Input { fd, named }
 }
 
-// Opens what the program is asked to read, puts its name at the start of `name`, and says so where that cannot be.
-pub fn open_input(program: &[u8], name: &mut [u8; PAGE_BYTES]) -> Input
-    ensures { result.named ≤ page_bytes }
+// How many words the program was called with: 3 stands for more, too.
+pub fn word_count(rt: &HostRuntime) -> usize {
+    for i in 0..3 {
+        if !has_word(rt, i) {
+            return i;
+        }
+    }
+    3
+}
+
+// Puts the first argument at the start of `name`, and answers how long it is: one that is longer than the page is taken for an
+// empty one.
+pub fn first_argument(rt: &HostRuntime, name: &mut [u8; PAGE_BYTES]) -> usize
+    ensures { result ≤ page_bytes }
 {
-    let asked = asked_for(os::arg_count(), libc::isatty(STDIN_FILENO) == 1);
-    match asked {
-        Asked::File => open_file(program, name),
-        Asked::StandardInput => {
-            let named = text::put_text(name, 0, b"standard input");
-            Input {
-                fd: STDIN_FILENO,
-                named,
-            }
-        }
-        Asked::Nothing => {
-            errors::usage(program);
-            Input { fd: -1, named: 0 }
-        }
+    rt.arg(1, name).unwrap_or(0)
+}
+
+// Opens the file of that name. The system's names are bytes, those that can be opened are text.
+pub fn open_named(rt: &HostRuntime, name: &[u8]) -> io::Result<File> {
+    match std::str::from_utf8(name) {
+        Ok(path) => File::open(rt, path),
+        Err(_) => Err(io::Error::new(io::ErrorKind::InvalidInput, "The name is not UTF-8")),
+    }
+}
+
+// What the bytes are read from, and the error of a read that failed.
+#[derive(Drop)]
+pub struct Input<R> {
+    pub reader: R,
+    pub error: Option<io::Error>,
+}
+
+// Nothing is read yet.
+pub fn of<R>(reader: R) -> Input<R> {
+    Input {
+        reader,
+        error: None,
     }
 }
 
 // Where the bytes read into a buffer end, and whether a read failed: a short end by itself is the end of the input.
-#[derive(Drop)]
+#[derive(Clone, Copy)]
 pub struct Filled {
     pub end: usize,
     pub failed: bool,
 }
 
 // One read into s from `from` up to `to`.
-fn read_on(fd: i32, s: &mut [u8], from: usize, to: usize) -> Filled
-    requires fact_1 { from ≤ to }
-    requires fact_2 { to ≤ length s.old }
+fn read_on<R: Read>(input: &mut Input<R>, s: &mut [u8], from: usize, to: usize) -> Filled
+    requires order { from ≤ to }
+    requires room { to ≤ length s.old }
     ensures { (from ≤ result.end) × (result.end ≤ to) }
 {
-    let got = libc::read(fd, &mut s[from..to]);
-    let more = io::count(got, &s[from..to]);
-    Filled {
-        end: from + more,
-        failed: got < 0,
+    match input.reader.read(&mut s[from..to]) {
+        Ok(more) => Filled {
+            end: from + more,
+            failed: false,
+        },
+        Err(error) => {
+            input.error = Some(error);
+            Filled {
+                end: from,
+                failed: true,
+            }
+        }
     }
 }
 
 // Reads on into s from `from` up to `to`, the end of the input, or a read that fails.
-pub fn fill(fd: i32, s: &mut [u8], from: usize, to: usize) -> Filled
-    requires fact_1 { from ≤ to }
-    requires fact_2 { to ≤ length s.old }
-    ensures fact_1 { from ≤ result.end }
-    ensures fact_2 { result.end ≤ to }
+pub fn fill<R: Read>(input: &mut Input<R>, s: &mut [u8], from: usize, to: usize) -> Filled
+    requires order { from ≤ to }
+    requires room { to ≤ length s.old }
+    ensures low { from ≤ result.end }
+    ensures high { result.end ≤ to }
 {
     let mut end = from;
     while end < to {
-        let read = read_on(fd, s, end, to);
+        let read = read_on(input, s, end, to);
         if read.end == end {
             return read;
         }

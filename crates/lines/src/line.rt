@@ -13,8 +13,8 @@ use vector::{Quaternion, Vec3};
 fn put_vec(out: &mut [u8; PAGE_BYTES], at: usize, v: Vec3) -> usize
     requires { at + 27 ≤ page_bytes }
     ensures page { out.new ≡ overwrite out.old at (vec_text v) }
-    ensures end_1 { result ≡ at + length (vec_text v) }
-    ensures end_2 { result ≤ at + 27 }
+    ensures end { result ≡ at + length (vec_text v) }
+    ensures within { result ≤ at + 27 }
 {
     let y = digits::put_word(out, at, v.x);
     let z = digits::put_word(out, y, v.y);
@@ -24,8 +24,8 @@ fn put_vec(out: &mut [u8; PAGE_BYTES], at: usize, v: Vec3) -> usize
 fn put_attitude(out: &mut [u8; PAGE_BYTES], at: usize, q: Quaternion) -> usize
     requires { at + 36 ≤ page_bytes }
     ensures page { out.new ≡ overwrite out.old at (attitude_text q) }
-    ensures end_1 { result ≡ at + length (attitude_text q) }
-    ensures end_2 { result ≤ at + 36 }
+    ensures end { result ≡ at + length (attitude_text q) }
+    ensures within { result ≤ at + 36 }
 {
     let i = digits::put_word(out, at, q.w);
     let j = digits::put_word(out, i, q.i);
@@ -37,8 +37,8 @@ fn put_attitude(out: &mut [u8; PAGE_BYTES], at: usize, q: Quaternion) -> usize
 fn put_body(out: &mut [u8; PAGE_BYTES], at: usize, b: Body) -> usize
     requires { at + 117 ≤ page_bytes }
     ensures page { out.new ≡ overwrite out.old at (body_text b) }
-    ensures end_1 { result ≡ at + length (body_text b) }
-    ensures end_2 { result ≤ at + 117 }
+    ensures end { result ≡ at + length (body_text b) }
+    ensures within { result ≤ at + 117 }
 {
     let velocity = put_vec(out, at, b.position_ned_m);
     let attitude = put_vec(out, velocity, b.velocity_ned_mps);
@@ -50,8 +50,8 @@ fn put_body(out: &mut [u8; PAGE_BYTES], at: usize, b: Body) -> usize
 fn put_rest(out: &mut [u8; PAGE_BYTES], at: usize, answer: Answer, f: Flight) -> usize
     requires { at + 139 ≤ page_bytes }
     ensures page { out.new ≡ overwrite out.old at (rest_text answer f) }
-    ensures end_1 { result ≡ at + length (rest_text answer f) }
-    ensures end_2 { result ≤ at + 139 }
+    ensures end { result ≡ at + length (rest_text answer f) }
+    ensures within { result ≤ at + 139 }
 {
     let number = text::put_byte(out, at, b' ');
     let body = digits::put_decimal(out, number, digits::wide(answer.number()));
@@ -69,8 +69,8 @@ pub fn put_line(
 ) -> usize
     requires { at + line_bytes ≤ page_bytes }
     ensures page { out.new ≡ overwrite out.old at (line_text index answer f) }
-    ensures end_1 { result ≡ at + length (line_text index answer f) }
-    ensures end_2 { result ≤ at + line_bytes }
+    ensures end { result ≡ at + length (line_text index answer f) }
+    ensures within { result ≤ at + line_bytes }
 {
     let rest = digits::put_decimal(out, at, index);
     put_rest(out, rest, answer, f)
@@ -86,8 +86,8 @@ pub fn put_mirrored_line(
 ) -> usize
     requires { at + line_bytes ≤ page_bytes }
     ensures page { out.new ≡ overwrite out.old at (mirrored_text index answer f) }
-    ensures end_1 { result ≡ at + length (mirrored_text index answer f) }
-    ensures end_2 { result ≤ at + line_bytes }
+    ensures end { result ≡ at + length (mirrored_text index answer f) }
+    ensures within { result ≤ at + line_bytes }
 {
     let mark = digits::put_decimal(out, at, index);
     let rest = text::put_byte(out, mark, b'\'');

@@ -14,9 +14,10 @@ use airframe_block::{AirframeRead, Announced, HEADER_BYTES, MOST_BYTES};
 use answers::Answer;
 use flight::Flight;
 use state_block::StateRead;
+use std::io::Read;
 
 // What the start of the input gives: the reply, where it is 0 the airframe and the state, and whether a read failed.
-#[derive(Drop)]
+#[derive(Clone, Copy)]
 pub struct Opened {
     pub answer: Answer,
     pub airframe: Airframe,
@@ -26,9 +27,9 @@ pub struct Opened {
 
 // How many bytes of an airframe block are read, by its first two: of a refused header no more than these.
 pub fn airframe_wanted(a: u8, b: u8) -> usize
-    ensures fact_1 { result ≡ wanted_by (announced_of a b) }
-    ensures fact_2 { header_bytes ≤ result }
-    ensures fact_3 { result ≤ most_bytes }
+    ensures count { result ≡ wanted_by (announced_of a b) }
+    ensures low { header_bytes ≤ result }
+    ensures high { result ≤ most_bytes }
 {
     let said = airframe_block::announced_of(a, b);
     match said {
@@ -53,11 +54,11 @@ struct AirframeOpened {
 }
 
 // The airframe block, as far as the input has it.
-fn open_airframe(fd: i32) -> AirframeOpened
+fn open_airframe<R: Read>(input: &mut Input<R>) -> AirframeOpened
     ensures { FromBlock result.read }
 {
     let mut s = [0u8; MOST_BYTES];
-    let head = input::fill(fd, &mut s, 0, HEADER_BYTES);
+    let head = input::fill(input, &mut s, 0, HEADER_BYTES);
     if head.end < HEADER_BYTES {
         let read = airframe_in(&s, head.end);
         return AirframeOpened {
@@ -66,7 +67,7 @@ fn open_airframe(fd: i32) -> AirframeOpened
         };
     }
     let to = airframe_wanted(s[0], s[1]);
-    let got = input::fill(fd, &mut s, HEADER_BYTES, to);
+    let got = input::fill(input, &mut s, HEADER_BYTES, to);
     let read = airframe_in(&s, got.end);
     AirframeOpened {
         read,
@@ -83,11 +84,11 @@ fn state_in(s: &[u8], end: usize) -> StateRead
 }
 
 // The state, behind the airframe.
-fn open_state(fd: i32, airframe: Airframe) -> Opened
+fn open_state<R: Read>(input: &mut Input<R>, airframe: Airframe) -> Opened
     ensures { FromState airframe result }
 {
     let mut s = [0u8; state_block::STATE_BYTES];
-    let got = input::fill(fd, &mut s, 0, state_block::STATE_BYTES);
+    let got = input::fill(input, &mut s, 0, state_block::STATE_BYTES);
     let read = state_in(&s, got.end);
     let answer = read.answer;
     let flight = read.flight;
@@ -100,15 +101,15 @@ fn open_state(fd: i32, airframe: Airframe) -> Opened
 }
 
 // The airframe and the state: behind a refused airframe nothing is read.
-fn read_blocks(fd: i32) -> Opened
+fn read_blocks<R: Read>(input: &mut Input<R>) -> Opened
     ensures { FromBlocks result }
 {
-    let opened = open_airframe(fd);
+    let opened = open_airframe(input);
     let read = opened.read;
     let answer = read.answer;
     let airframe = read.airframe;
     if answer.is_done() {
-        return open_state(fd, airframe);
+        return open_state(input, airframe);
     }
     Opened {
         answer,
@@ -119,16 +120,15 @@ fn read_blocks(fd: i32) -> Opened
 }
 
 // The airframe and the state of the input; where they are refused, the refusal is written.
-pub fn open(program: &[u8], name: &[u8; PAGE_BYTES], input: Input) -> Opened
-    requires { input.named ≤ page_bytes }
+pub fn open<R: Read>(rt: &HostRuntime, program: &[u8], name: &[u8], input: &mut Input<R>) -> Opened
     ensures { FromBlocks result }
 {
-    let opened = read_blocks(input.fd);
+    let opened = read_blocks(input);
     let answer = opened.answer;
     if !answer.is_done() {
-        let mut out = io::large_buffer();
+        let mut out = page::blank();
         let end = page::put_refusal(&mut out, 0, answer);
-        page::flush(program, name, input, opened.failed, &out, end);
+        page::flush(rt, program, name, input.error, &out, end);
     }
     opened
 }
@@ -137,8 +137,8 @@ pub fn open(program: &[u8], name: &[u8; PAGE_BYTES], input: Input) -> Opened
 pub const TICKS_BYTES: usize = 200 * trace::TICK_BYTES;
 
 // Reads the next 200 ticks, or what is left.
-pub fn read_ticks(fd: i32, buf: &mut [u8; PAGE_BYTES]) -> Filled
+pub fn read_ticks<R: Read>(input: &mut Input<R>, buf: &mut [u8; PAGE_BYTES]) -> Filled
     ensures { (result.end ≤ 200 * tick_bytes) × (length buf.new ≡ page_bytes) }
 {
-    input::fill(fd, buf, 0, TICKS_BYTES)
+    input::fill(input, buf, 0, TICKS_BYTES)
 }

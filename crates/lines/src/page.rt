@@ -3,39 +3,43 @@ ghost use Rattle.std.specs.Prelude.{◌≡◌, ◌+◌, ◌≤◌, length};
 ghost use Rattle.lines.specs.Text.{end_text, overwrite, refusal_text};
 ghost use Rattle.lines.specs.Page.{line_bytes, page_bytes};
 
-use crate::input::Input;
 use crate::{digits, errors, text};
 use answers::Answer;
-use libc::STDOUT_FILENO;
+use std::io;
 
 // A page: one buffer of text or of ticks.
 pub const PAGE_BYTES: usize = 65536;
 
-// Writes the first `at` bytes of `out`, and answers whether all were taken.
-fn write(out: &[u8], at: usize) -> bool
+// A page of zeros.
+pub fn blank() -> [u8; PAGE_BYTES] {
+    [0; PAGE_BYTES]
+}
+
+// Writes the first `at` bytes of `out`, or fails.
+fn write(rt: &HostRuntime, out: &[u8], at: usize) -> io::Result<()>
     requires { at ≤ length out.now }
 {
-    io::write_all(STDOUT_FILENO, &out[..at])
+    rt.stdout().write_all(&out[..at])
 }
 
 // Writes the page up to `at`, and answers whether all went well. If not, it says what went wrong: with writing the page or, where
-// `failed` says so, with reading what it was made of.
+// `failed` has the error of a read, with reading what it was made of.
 pub fn flush(
+    rt: &HostRuntime,
     program: &[u8],
-    name: &[u8; PAGE_BYTES],
-    input: Input,
-    failed: bool,
+    name: &[u8],
+    failed: Option<io::Error>,
     out: &[u8; PAGE_BYTES],
     at: usize,
 ) -> bool
-    requires { (input.named ≤ page_bytes) × (at ≤ page_bytes) }
+    requires { at ≤ page_bytes }
 {
-    if !write(out, at) {
-        errors::unwritten(program);
+    if let Err(error) = write(rt, out, at) {
+        errors::unwritten(rt, program, error);
         return false;
     }
-    if failed {
-        errors::unread(program, name, input.named);
+    if let Some(error) = failed {
+        errors::unread(rt, program, name, error);
         return false;
     }
     true
@@ -45,8 +49,8 @@ pub fn flush(
 pub fn put_refusal(out: &mut [u8; PAGE_BYTES], at: usize, answer: Answer) -> usize
     requires { at + line_bytes ≤ page_bytes }
     ensures page { out.new ≡ overwrite out.old at (refusal_text answer) }
-    ensures end_1 { result ≡ at + length (refusal_text answer) }
-    ensures end_2 { result ≤ at + line_bytes }
+    ensures end { result ≡ at + length (refusal_text answer) }
+    ensures within { result ≤ at + line_bytes }
 {
     let behind_0 = text::put_byte(out, at, b'0');
     let number = text::put_byte(out, behind_0, b' ');
@@ -60,8 +64,8 @@ pub fn put_refusal(out: &mut [u8; PAGE_BYTES], at: usize, answer: Answer) -> usi
 pub fn put_end(out: &mut [u8; PAGE_BYTES], at: usize, n: usize) -> usize
     requires { at + line_bytes ≤ page_bytes }
     ensures page { out.new ≡ overwrite out.old at (end_text n) }
-    ensures end_1 { result ≡ at + length (end_text n) }
-    ensures end_2 { result ≤ at + line_bytes }
+    ensures end { result ≡ at + length (end_text n) }
+    ensures within { result ≤ at + line_bytes }
 {
     if n % trace::TICK_BYTES == 0 {
         return at;

@@ -7,13 +7,14 @@ ghost use Rattle.lines.specs.Tracks.{page_text, tracks_of, tracks_over};
 ghost use Rattle.trace.specs.Tick.{tick_bytes};
 
 use crate::flown::Flown;
-use crate::input::Input;
+use crate::input::{Asked, Input};
 use crate::opening::TICKS_BYTES;
 use crate::page::PAGE_BYTES;
 use crate::track::Track;
-use crate::{flown, input, opening, page, report, track};
+use crate::{errors, flown, input, opening, page, report, track};
 use airframe::Airframe;
 use flight::Flight;
+use std::io::{IsTerminal, Read};
 
 // Flies the trace's whole ticks, and puts their lines at the page's start: of the flight alone or, where `beside` says so, with its
 // reflection beside it.
@@ -21,8 +22,8 @@ fn fly_page(a: Airframe, p: Track, trace: &[u8], beside: bool, out: &mut [u8; PA
     requires { length trace.now ≤ 200 * tick_bytes }
     ensures tracks { tracks_of result ≡ tracks_over beside a p trace.now }
     ensures page { out.new ≡ overwrite out.old 0 (page_text beside a p trace.now) }
-    ensures end_1 { result.at ≡ length (page_text beside a p trace.now) }
-    ensures end_2 { result.at ≤ 200 * (2 * line_bytes) }
+    ensures end { result.at ≡ length (page_text beside a p trace.now) }
+    ensures within { result.at ≤ 200 * (2 * line_bytes) }
 {
     if beside {
         return track::fly_ticks(a, p, trace, out);
@@ -59,47 +60,71 @@ fn end_page(out: &mut [u8; PAGE_BYTES], p: Track, n: usize, beside: bool) -> usi
 }
 
 // Flies all ticks of the input from f, where airframe and state are accepted.
-fn fly_input(
+fn fly_input<R: Read>(
+    rt: &HostRuntime,
     program: &[u8],
     a: Airframe,
     f: Flight,
-    input: Input,
-    name: &[u8; PAGE_BYTES],
+    input: &mut Input<R>,
+    name: &[u8],
     beside: bool,
 )
-    requires fact_1 { Ready a f }
-    requires fact_2 { input.named ≤ page_bytes }
+    requires { Ready a f }
 {
-    let mut ticks = io::large_buffer();
-    let mut out = io::large_buffer();
+    let mut ticks = page::blank();
+    let mut out = page::blank();
     let mut p = track::start(f);
-    let mut rounds = u64::MAX;
-    while rounds > 0 {
-        let got = opening::read_ticks(input.fd, &mut ticks);
+    for _ in 0..u64::MAX {
+        let got = opening::read_ticks(input, &mut ticks);
         let n = got.end;
         p = fly_page(a, p, &ticks[..n], beside, &mut out);
         let end = end_page(&mut out, p, n, beside);
-        let well = page::flush(program, name, input, got.failed, &out, end);
+        let well = page::flush(rt, program, name, input.error, &out, end);
         if !well {
             return;
         }
         if n < TICKS_BYTES {
             return;
         }
-        rounds -= 1;
     }
 }
 
-// Flies the file or standard input that the program is asked to read, where its airframe and its state are accepted.
-pub fn fly_file(program: &[u8], beside: bool) {
-    let mut name = io::large_buffer();
-    let input = input::open_input(program, &mut name);
-    if input.fd < 0 {
-        return;
-    }
-    let o = opening::open(program, &name, input);
+// Flies the input of that name, where its airframe and its state are accepted.
+fn fly<R: Read>(rt: &HostRuntime, program: &[u8], name: &[u8], input: &mut Input<R>, beside: bool) {
+    let o = opening::open(rt, program, name, input);
     let answer = o.answer;
     if answer.is_done() {
-        fly_input(program, o.airframe, o.flight, input, &name, beside);
+        fly_input(rt, program, o.airframe, o.flight, input, name, beside);
+    }
+}
+
+// Flies the file that the first argument names.
+fn fly_named(rt: &HostRuntime, program: &[u8], beside: bool) {
+    let mut page = page::blank();
+    let n = input::first_argument(rt, &mut page);
+    let name = &page[..n];
+    match input::open_named(rt, name) {
+        Ok(file) => {
+            let mut from = input::of(file);
+            fly(rt, program, name, &mut from, beside);
+        }
+        Err(error) => errors::unopened(rt, program, name, error),
+    }
+}
+
+// Flies standard input.
+fn fly_standard_input(rt: &HostRuntime, program: &[u8], beside: bool) {
+    let mut from = input::of(rt.stdin());
+    fly(rt, program, b"standard input", &mut from, beside);
+}
+
+// Flies the file or standard input that the program is asked to read, where its airframe and its state are accepted. What it cannot
+// read or write it says on standard error.
+pub fn fly_file(rt: &HostRuntime, program: &[u8], beside: bool) {
+    let asked = input::asked_for(input::word_count(rt), rt.stdin().is_terminal());
+    match asked {
+        Asked::File => fly_named(rt, program, beside),
+        Asked::StandardInput => fly_standard_input(rt, program, beside),
+        Asked::Nothing => errors::usage(rt, program),
     }
 }

@@ -8,8 +8,8 @@ use crate::page::PAGE_BYTES;
 // Puts the byte b at `at`.
 pub fn put_byte(out: &mut [u8; PAGE_BYTES], at: usize, b: u8) -> usize
     requires { at < page_bytes }
-    ensures fact_1 { out.new ≡ overwrite out.old at (byte_text b) }
-    ensures fact_2 { result ≡ at + 1 }
+    ensures page { out.new ≡ overwrite out.old at (byte_text b) }
+    ensures end { result ≡ at + 1 }
 {
     out[at] = b;
     at + 1

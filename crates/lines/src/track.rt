@@ -14,7 +14,7 @@ use wing::TickResult;
 
 // The two states after the ticks flown, how many they were, how many of them each flight accepted, the first that does not mirror
 // (0 for none), and where the lines on the page end.
-#[derive(Drop)]
+#[derive(Clone, Copy)]
 pub struct Track {
     pub first: Flight,
     pub second: Flight,
@@ -73,8 +73,8 @@ fn put_both(
 ) -> usize
     requires { at + 2 * line_bytes ≤ page_bytes }
     ensures page { out.new ≡ overwrite out.old at (Tracks.pair_text index x y) }
-    ensures end_1 { result ≡ at + length (Tracks.pair_text index x y) }
-    ensures end_2 { result ≤ at + 2 * line_bytes }
+    ensures end { result ≡ at + length (Tracks.pair_text index x y) }
+    ensures within { result ≤ at + 2 * line_bytes }
 {
     let ours = x.report;
     let theirs = y.report;
@@ -86,8 +86,8 @@ fn put_both(
 
 // The tracks after the tick that gave x, and y in the reflection; its lines are on the page up to `at`.
 fn after(p: Track, x: TickResult, y: TickResult, at: usize) -> Track
-    ensures fact_1 { Tracks.tracks_of result ≡ Tracks.tracks_after (Tracks.tracks_of p) x y }
-    ensures fact_2 { result.at ≡ at }
+    ensures tracks { Tracks.tracks_of result ≡ Tracks.tracks_after (Tracks.tracks_of p) x y }
+    ensures at { result.at ≡ at }
 {
     let ticks = std::num::wrapping_add_u64(p.ticks, 1);
     let differs = first_unlike(p.differs, ticks, x, y);
@@ -115,8 +115,8 @@ fn fly_one(a: Airframe, p: Track, t: Tick, out: &mut [u8; PAGE_BYTES]) -> Track
     requires { p.at + 2 * line_bytes ≤ page_bytes }
     ensures tracks { Tracks.tracks_of result ≡ Tracks.tracks_on a (Tracks.tracks_of p) t }
     ensures page { out.new ≡ overwrite out.old p.at (Tracks.text_on a (Tracks.tracks_of p) t) }
-    ensures end_1 { result.at ≡ p.at + length (Tracks.text_on a (Tracks.tracks_of p) t) }
-    ensures end_2 { result.at ≤ p.at + 2 * line_bytes }
+    ensures end { result.at ≡ p.at + length (Tracks.text_on a (Tracks.tracks_of p) t) }
+    ensures within { result.at ≤ p.at + 2 * line_bytes }
 {
     let x = lent_tick::tick_by_reference(a, p.first, t);
     let y = lent_tick::tick_by_reference(a.reflected(), p.second, t.reflected());
@@ -130,8 +130,8 @@ pub fn fly_ticks(a: Airframe, p: Track, trace: &[u8], out: &mut [u8; PAGE_BYTES]
     requires { length trace.now ≤ 200 * tick_bytes }
     ensures tracks { Tracks.tracks_of result ≡ Tracks.tracks_flown a p trace.now }
     ensures page { out.new ≡ overwrite out.old 0 (Tracks.text_flown a p trace.now) }
-    ensures end_1 { result.at ≡ length (Tracks.text_flown a p trace.now) }
-    ensures end_2 { result.at ≤ 200 * (2 * line_bytes) }
+    ensures end { result.at ≡ length (Tracks.text_flown a p trace.now) }
+    ensures within { result.at ≤ 200 * (2 * line_bytes) }
 {
     let count = trace::tick_count(trace);
     let mut pair = p;

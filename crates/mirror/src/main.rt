@@ -2,6 +2,6 @@
 // prints both lines of each tick, how many were accepted, and whether the flight and its own reflection mirror.
 #![tactic(auto)]
 
-fn main() {
-    lines::fly_file(b"mirror", true);
+fn main(rt: HostRuntime) {
+    lines::fly_file(&rt, b"mirror", true);
 }

@@ -7,8 +7,9 @@ ghost use Rattle.lines.specs.Page.{page_bytes};
 
 use crate::lists::List;
 use crate::{line_words, lists, report};
+use std::io;
 
-#[derive(Drop)]
+#[derive(Clone, Copy)]
 pub struct Tally {
     pub cases: u64,
     pub differ: u64,
@@ -27,8 +28,8 @@ fn plain(b: u32) -> u32
 
 // Whether the n words of w from `from` are the numbers at the start of out.
 fn agree(w: &[u32; 192], from: usize, out: &[u32; 64], n: usize) -> bool
-    requires fact_1 { from + n ≤ 192 }
-    requires fact_2 { n ≤ 64 }
+    requires words { from + n ≤ 192 }
+    requires answers { n ≤ 64 }
 {
     let mut i = 0;
     while i < n {
@@ -57,7 +58,7 @@ fn is_right(w: &[u32; 192], inputs: usize, count: usize, out: &[u32; 64], n: usi
 }
 
 // Replays the line s, and counts it.
-fn replay(list: List, s: &[u8], t: Tally) -> Tally
+fn replay(rt: &HostRuntime, list: List, s: &[u8], t: Tally) -> io::Result<Tally>
     requires { length s.now ≤ page_bytes }
 {
     let mut w = [0u32; 192];
@@ -66,26 +67,33 @@ fn replay(list: List, s: &[u8], t: Tally) -> Tally
     let n = lists::answers(list, &w, l.inputs, &mut out);
     let cases = std::num::wrapping_add_u64(t.cases, 1);
     if is_right(&w, l.inputs, l.count, &out, n) {
-        return Tally {
-            cases: cases,
+        return Ok(Tally {
+            cases,
             differ: t.differ,
-        };
+        });
     }
-    report::difference(cases, s, &out, n);
-    Tally {
-        cases: cases,
+    report::difference(rt, cases, s, &out, n)?;
+    Ok(Tally {
+        cases,
         differ: std::num::wrapping_add_u64(t.differ, 1),
-    }
+    })
 }
 
 // Replays the line from `at` to `to` of buf, unless it is a comment.
-pub fn take(list: List, buf: &[u8], at: usize, to: usize, t: Tally) -> Tally
+pub fn take(
+    rt: &HostRuntime,
+    list: List,
+    buf: &[u8],
+    at: usize,
+    to: usize,
+    t: Tally,
+) -> io::Result<Tally>
     requires { (at ≤ to) × ((to ≤ length buf.now) × (to ≤ page_bytes)) }
 {
     if at < to {
         if buf[at] == b'#' {
-            return t;
+            return Ok(t);
         }
     }
-    replay(list, &buf[at..to], t)
+    replay(rt, list, &buf[at..to], t)
 }

@@ -11,7 +11,7 @@ use state_block::StateRead;
 
 // What fly prints for the flight at hand stands in the first `end` bytes of a page; those before `at` were found in the list, and
 // `same` says whether all lines so far were.
-#[derive(Drop)]
+#[derive(Clone, Copy)]
 pub struct Page {
     pub at: usize,
     pub end: usize,
@@ -31,8 +31,8 @@ fn least(a: usize, b: usize) -> usize
 // Puts the bytes that the hex digits from `from` to `to` of the line spell at the start of `bytes`, as far as there is room, and
 // answers how many they are.
 fn decode(line: &[u8; PAGE_BYTES], from: usize, to: usize, bytes: &mut [u8; 4096]) -> usize
-    requires fact_1 { from ≤ to }
-    requires fact_2 { to ≤ page_bytes }
+    requires order { from ≤ to }
+    requires within { to ≤ page_bytes }
     ensures { result ≤ 4096 }
 {
     let n = least((to - from) / 2, 4096);
@@ -96,9 +96,9 @@ fn printed(bytes: &[u8; 4096], n: usize, out: &mut [u8; PAGE_BYTES]) -> usize
 
 // Whether the line's bytes from `from` to `to` and a newline stand at `at` of the page.
 fn found(line: &[u8; PAGE_BYTES], from: usize, to: usize, out: &[u8; PAGE_BYTES], at: usize) -> bool
-    requires fact_1 { from ≤ to }
-    requires fact_2 { to ≤ page_bytes }
-    requires fact_3 { at ≤ page_bytes }
+    requires order { from ≤ to }
+    requires within { to ≤ page_bytes }
+    requires page { at ≤ page_bytes }
 {
     if PAGE_BYTES - at <= to - from {
         return false;
@@ -131,7 +131,7 @@ fn counted(t: Tally, p: Page) -> Tally {
 }
 
 // The flights so far, and the page of the one at hand, where there is one.
-#[derive(Drop)]
+#[derive(Clone, Copy)]
 pub struct Walk {
     pub tally: Tally,
     pub page: Page,

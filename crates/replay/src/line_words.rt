@@ -6,7 +6,7 @@ use crate::words;
 
 // What is read of a line up to `at`: `count` words in all, of which `inputs` stand before the mark.
 // 0 inputs: no mark was read, or the line is not one of a list.
-#[derive(Drop)]
+#[derive(Clone, Copy)]
 pub struct Line {
     pub at: usize,
     pub inputs: usize,
@@ -89,8 +89,8 @@ fn step(s: &[u8], l: Line, w: &mut [u32; 192]) -> Line
 // The words of the line s, in order, at the start of w.
 pub fn read(s: &[u8], w: &mut [u32; 192]) -> Line
     requires { length s.now ≤ page_bytes }
-    ensures fact_1 { result.inputs ≤ result.count }
-    ensures fact_2 { result.count ≤ 192 }
+    ensures inputs { result.inputs ≤ result.count }
+    ensures count { result.count ≤ 192 }
 {
     let mut l = Line {
         at: 0,

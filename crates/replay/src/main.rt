@@ -17,138 +17,135 @@ mod words;
 use cases::Tally;
 use lines::PAGE_BYTES;
 use lists::List;
-use source::Source;
+use std::fs::File;
+use std::io;
+use std::io::Read;
 
-// Replays the lines of the open file fd.
-fn replay(list: List, fd: i32, buf: &mut [u8; PAGE_BYTES]) -> Tally {
-    let mut s = Source {
-        fd: fd,
-        at: 0,
-        end: 0,
-    };
+// Replays the lines of the file.
+fn replay<R: Read>(
+    rt: &HostRuntime,
+    list: List,
+    file: &mut R,
+    buf: &mut [u8; PAGE_BYTES],
+) -> io::Result<Tally> {
+    let mut s = source::start();
     let mut t = Tally {
         cases: 0,
         differ: 0,
     };
-    let mut rounds = u64::MAX;
-    while rounds > 0 {
-        s = source::with_line(buf, s);
+    for _ in 0..u64::MAX {
+        s = source::with_line(file, buf, s)?;
         let at = s.at;
         let end = s.end;
         if at == end {
-            return t;
+            return Ok(t);
         }
         let to = source::line_end(buf, at, end);
-        t = cases::take(list, buf, at, to, t);
+        t = cases::take(rt, list, buf, at, to, t)?;
         s = source::past(s, to);
-        rounds -= 1;
     }
-    t
+    Ok(t)
 }
 
 // Replays the list `name`, which is in the file of that name with `.txt` behind it.
-fn run(name: &[u8], path: &[u8], list: List, buf: &mut [u8; PAGE_BYTES]) {
-    let fd = os::open_read(path);
-    if fd < 0 {
-        report::missing(name);
-        return;
-    }
-    let t = replay(list, fd, buf);
-    libc::close(fd);
-    report::counts(name, t.cases, t.differ);
+fn run(
+    rt: &HostRuntime,
+    name: &str,
+    path: &str,
+    list: List,
+    buf: &mut [u8; PAGE_BYTES],
+) -> io::Result<()> {
+    let Ok(mut file) = File::open(rt, path) else {
+        return report::missing(rt, name);
+    };
+    let t = replay(rt, list, &mut file, buf)?;
+    report::counts(rt, name, t.cases, t.differ)
 }
 
-// Replays the flights of the open file fd.
-fn replay_flights(fd: i32, buf: &mut [u8; PAGE_BYTES]) -> Tally {
-    let mut bytes = io::buffer();
-    let mut out = io::large_buffer();
-    let mut s = Source {
-        fd: fd,
-        at: 0,
-        end: 0,
-    };
+// Replays the flights of the file.
+fn replay_flights<R: Read>(file: &mut R, buf: &mut [u8; PAGE_BYTES]) -> io::Result<Tally> {
+    let mut bytes = [0u8; 4096];
+    let mut out = [0u8; PAGE_BYTES];
+    let mut s = source::start();
     let mut w = flights::begin();
-    let mut rounds = u64::MAX;
-    while rounds > 0 {
-        s = source::with_line(buf, s);
+    for _ in 0..u64::MAX {
+        s = source::with_line(file, buf, s)?;
         let at = s.at;
         let end = s.end;
         if at == end {
-            return flights::tally(w);
+            return Ok(flights::tally(w));
         }
         let to = source::line_end(buf, at, end);
         w = flights::take(w, buf, at, to, &mut bytes, &mut out);
         s = source::past(s, to);
-        rounds -= 1;
     }
-    flights::tally(w)
+    Ok(flights::tally(w))
 }
 
 // Replays the list of flights.
-fn run_flights(buf: &mut [u8; PAGE_BYTES]) {
-    let fd = os::open_read(b"flights.txt");
-    if fd < 0 {
-        report::missing(b"flights");
-        return;
-    }
-    let t = replay_flights(fd, buf);
-    libc::close(fd);
-    report::counts(b"flights", t.cases, t.differ);
+fn run_flights(rt: &HostRuntime, buf: &mut [u8; PAGE_BYTES]) -> io::Result<()> {
+    let Ok(mut file) = File::open(rt, "flights.txt") else {
+        return report::missing(rt, "flights");
+    };
+    let t = replay_flights(&mut file, buf)?;
+    report::counts(rt, "flights", t.cases, t.differ)
 }
 
 // A function for a few lists each: the prover's work for one grows with the square of its calls.
-fn run_roots(buf: &mut [u8; PAGE_BYTES]) {
-    run(b"sqrtf", b"sqrtf.txt", List::Sqrtf, buf);
-    run(b"expf", b"expf.txt", List::Expf, buf);
-    run(b"sinf", b"sinf.txt", List::Sinf, buf);
-    run(b"cosf", b"cosf.txt", List::Cosf, buf);
+fn run_roots(rt: &HostRuntime, buf: &mut [u8; PAGE_BYTES]) -> io::Result<()> {
+    run(rt, "sqrtf", "sqrtf.txt", List::Sqrtf, buf)?;
+    run(rt, "expf", "expf.txt", List::Expf, buf)?;
+    run(rt, "sinf", "sinf.txt", List::Sinf, buf)?;
+    run(rt, "cosf", "cosf.txt", List::Cosf, buf)
 }
 
-fn run_angles(buf: &mut [u8; PAGE_BYTES]) {
-    run(b"asinf", b"asinf.txt", List::Asinf, buf);
-    run(b"atan2f", b"atan2f.txt", List::Atan2f, buf);
-    run(b"logf", b"logf.txt", List::Logf, buf);
-    run(b"powf", b"powf.txt", List::Powf, buf);
-    run(b"density", b"density.txt", List::Density, buf);
+fn run_angles(rt: &HostRuntime, buf: &mut [u8; PAGE_BYTES]) -> io::Result<()> {
+    run(rt, "asinf", "asinf.txt", List::Asinf, buf)?;
+    run(rt, "atan2f", "atan2f.txt", List::Atan2f, buf)?;
+    run(rt, "logf", "logf.txt", List::Logf, buf)?;
+    run(rt, "powf", "powf.txt", List::Powf, buf)?;
+    run(rt, "density", "density.txt", List::Density, buf)
 }
 
-fn run_lags(buf: &mut [u8; PAGE_BYTES]) {
-    run(b"lag_factor", b"lag_factor.txt", List::LagFactor, buf);
+fn run_lags(rt: &HostRuntime, buf: &mut [u8; PAGE_BYTES]) -> io::Result<()> {
+    run(rt, "lag_factor", "lag_factor.txt", List::LagFactor, buf)?;
     run(
-        b"approach_saturated",
-        b"approach_saturated.txt",
+        rt,
+        "approach_saturated",
+        "approach_saturated.txt",
         List::ApproachSaturated,
         buf,
-    );
+    )?;
     run(
-        b"falloff_share",
-        b"falloff_share.txt",
+        rt,
+        "falloff_share",
+        "falloff_share.txt",
         List::FalloffShare,
         buf,
-    );
-    run(b"stall_blend", b"stall_blend.txt", List::StallBlend, buf);
+    )?;
+    run(rt, "stall_blend", "stall_blend.txt", List::StallBlend, buf)
 }
 
-fn run_loads(buf: &mut [u8; PAGE_BYTES]) {
-    run(b"wash", b"wash.txt", List::PropWash, buf);
-    run(b"rotate", b"rotate.txt", List::Rotate, buf);
-    run(b"body_step", b"body_step.txt", List::BodyStep, buf);
-    run(b"wrench", b"wrench.txt", List::Wrench, buf);
+fn run_loads(rt: &HostRuntime, buf: &mut [u8; PAGE_BYTES]) -> io::Result<()> {
+    run(rt, "wash", "wash.txt", List::PropWash, buf)?;
+    run(rt, "rotate", "rotate.txt", List::Rotate, buf)?;
+    run(rt, "body_step", "body_step.txt", List::BodyStep, buf)?;
+    run(rt, "wrench", "wrench.txt", List::Wrench, buf)
 }
 
-fn run_actuators(buf: &mut [u8; PAGE_BYTES]) {
-    run(b"motors", b"motors.txt", List::Motors, buf);
-    run(b"lift", b"lift.txt", List::Lift, buf);
-    run(b"motor_rows", b"motor_rows.txt", List::MotorRows, buf);
-    run(b"surfaces", b"surfaces.txt", List::Surfaces, buf);
+fn run_actuators(rt: &HostRuntime, buf: &mut [u8; PAGE_BYTES]) -> io::Result<()> {
+    run(rt, "motors", "motors.txt", List::Motors, buf)?;
+    run(rt, "lift", "lift.txt", List::Lift, buf)?;
+    run(rt, "motor_rows", "motor_rows.txt", List::MotorRows, buf)?;
+    run(rt, "surfaces", "surfaces.txt", List::Surfaces, buf)
 }
 
-fn main() {
-    let mut buf = io::large_buffer();
-    run_roots(&mut buf);
-    run_angles(&mut buf);
-    run_lags(&mut buf);
-    run_loads(&mut buf);
-    run_actuators(&mut buf);
-    run_flights(&mut buf);
+fn main(rt: HostRuntime) -> io::Result<()> {
+    let mut buf = [0u8; PAGE_BYTES];
+    run_roots(&rt, &mut buf)?;
+    run_angles(&rt, &mut buf)?;
+    run_lags(&rt, &mut buf)?;
+    run_loads(&rt, &mut buf)?;
+    run_actuators(&rt, &mut buf)?;
+    run_flights(&rt, &mut buf)
 }

@@ -1,23 +1,31 @@
 // A file read line by line through a buffer of fixed size.
-ghost use Rattle.std.specs.Prelude.{◌≡◌, ◌+◌, ◌≤◌};
+ghost use Rattle.std.specs.Prelude.{◌≡◌, ◌+◌, ◌≤◌, IfOk, length};
 ghost use Rattle.lines.specs.Page.{page_bytes};
 
 use lines::PAGE_BYTES;
+use std::io;
+use std::io::Read;
 
 // The bytes from `at` to `end` of the buffer are read and not yet taken.
-#[derive(Drop)]
+#[derive(Clone, Copy)]
 pub struct Source {
-    pub fd: i32,
     pub at: usize,
     pub end: usize,
 }
 
+// Nothing is read yet.
+pub fn start() -> Source
+    ensures { (result.at ≤ result.end) × (result.end ≤ page_bytes) }
+{
+    Source { at: 0, end: 0 }
+}
+
 // Where the line at `at` ends: at its newline, or at `end` where none follows.
 pub fn line_end(buf: &[u8; PAGE_BYTES], at: usize, end: usize) -> usize
-    requires fact_1 { at ≤ end }
-    requires fact_2 { end ≤ page_bytes }
-    ensures fact_1 { at ≤ result }
-    ensures fact_2 { result ≤ end }
+    requires order { at ≤ end }
+    requires within { end ≤ page_bytes }
+    ensures low { at ≤ result }
+    ensures high { result ≤ end }
 {
     let mut i = at;
     while i < end {
@@ -31,8 +39,8 @@ pub fn line_end(buf: &[u8; PAGE_BYTES], at: usize, end: usize) -> usize
 
 // Moves the bytes from `at` to `end` to the buffer's start.
 fn to_front(buf: &mut [u8; PAGE_BYTES], at: usize, end: usize)
-    requires fact_1 { at ≤ end }
-    requires fact_2 { end ≤ page_bytes }
+    requires order { at ≤ end }
+    requires within { end ≤ page_bytes }
 {
     let mut i = at;
     while i < end {
@@ -41,38 +49,45 @@ fn to_front(buf: &mut [u8; PAGE_BYTES], at: usize, end: usize)
     }
 }
 
-// Reads on into the buffer from n, and answers how many bytes came.
-fn read_behind(fd: i32, buf: &mut [u8], n: usize) -> usize
+// Reads on into the buffer from n until it is full or the file ends, and answers how many bytes came.
+fn read_behind<R: Read>(file: &mut R, buf: &mut [u8], n: usize) -> io::Result<usize>
     requires { n ≤ length buf.old }
-    ensures { n + result ≤ length buf.old }
+    ensures { IfOk result (λ more. n + more ≤ length buf.old) }
 {
-    io::read_full(fd, &mut buf[n..])
+    let mut end = n;
+    while end < buf.len() {
+        let more = file.read(&mut buf[end..])?;
+        if more == 0 {
+            break;
+        }
+        end += more;
+    }
+    Ok(end - n)
 }
 
-fn refill(buf: &mut [u8; PAGE_BYTES], s: Source) -> Source
+fn refill<R: Read>(file: &mut R, buf: &mut [u8; PAGE_BYTES], s: Source) -> io::Result<Source>
     requires { (s.at ≤ s.end) × (s.end ≤ page_bytes) }
-    ensures { (result.at ≤ result.end) × (result.end ≤ page_bytes) }
+    ensures { IfOk result (λ t. (t.at ≤ t.end) × (t.end ≤ page_bytes)) }
 {
     to_front(buf, s.at, s.end);
     let n = s.end - s.at;
-    let more = read_behind(s.fd, buf, n);
-    Source {
-        fd: s.fd,
+    let more = read_behind(file, buf, n)?;
+    Ok(Source {
         at: 0,
         end: n + more,
-    }
+    })
 }
 
 // Sees to it that the whole next line is in the buffer, as far as it fits. Nothing from `at` to
 // `end`: the file has ended.
-pub fn with_line(buf: &mut [u8; PAGE_BYTES], s: Source) -> Source
+pub fn with_line<R: Read>(file: &mut R, buf: &mut [u8; PAGE_BYTES], s: Source) -> io::Result<Source>
     requires { (s.at ≤ s.end) × (s.end ≤ page_bytes) }
-    ensures { (result.at ≤ result.end) × (result.end ≤ page_bytes) }
+    ensures { IfOk result (λ t. (t.at ≤ t.end) × (t.end ≤ page_bytes)) }
 {
     if line_end(buf, s.at, s.end) < s.end {
-        return s;
+        return Ok(s);
     }
-    refill(buf, s)
+    refill(file, buf, s)
 }
 
 // After the line that ends at `to`, and its newline.
@@ -81,7 +96,6 @@ pub fn past(s: Source, to: usize) -> Source
     ensures { (result.at ≤ result.end) × (result.end ≡ s.end) }
 {
     Source {
-        fd: s.fd,
         at: if to < s.end { to + 1 } else { to },
         end: s.end,
     }

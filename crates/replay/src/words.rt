@@ -25,8 +25,8 @@ fn is_digit(b: u8) -> bool
 
 // The value of a hex digit; 0 where b is none.
 fn digit(b: u8) -> u32
-    ensures fact_1 { result ≡ digit_of b }
-    ensures fact_2 { result < 16 }
+    ensures value { result ≡ digit_of b }
+    ensures small { result < 16 }
 {
     if b < 48 {
         return 0;
@@ -56,8 +56,8 @@ fn is_pair(s: &[u8], i: usize) -> bool
 // The byte that two hex digits at i spell.
 pub fn pair(s: &[u8], i: usize) -> u32
     requires { i + 2 ≤ length s.now }
-    ensures fact_1 { result ≡ pair_of s.now i }
-    ensures fact_2 { result < 256 }
+    ensures value { result ≡ pair_of s.now i }
+    ensures small { result < 256 }
 {
     digit(s[i]) * 16 + digit(s[i + 1])
 }
