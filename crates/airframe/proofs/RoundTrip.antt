@@ -6,11 +6,10 @@ use lib.Ieee.{Float, nan}
 use lib.ListN.{length}
 use mathlib.Core.Bool.{Bool, cond, false, true}
 use mathlib.Core.List.{List}
-use mathlib.Core.Path.{◌∙◌, ◌≡◌, ap, refl}
+use mathlib.Core.Path.{◌≡◌, refl}
 use Rattle.fixed_wing.specs.declared.ThrustFalloff.TheVariants.{Linear, PitchSpeed}
 use Rattle.float.proofs.Lists.{list_of-again}
 use Rattle.float.specs.Lists.{list_from, list_of}
-use Rattle.mixers.specs.Slots.{at}
 use Rattle.motors.specs.declared.MotorGroup.{MotorGroup}
 use Rattle.vector.specs.declared.Vec3.{Vec3}
 use Rattle.airframe.specs.FromNumbers.{airframe_of, coefficients_of, falloff_of, lift_constant, lift_layout_of, model_of, motor_constant, motor_layout_of, wash_from}

@@ -1,6 +1,6 @@
 -- The wrench in moving air is the book's and the departures, and nothing else, in every exact field. Assumes nothing.
 use mathlib.Core.Bool.{Bool, cond, false, true}
-use mathlib.Core.List.{[], ◌∷◌}
+use mathlib.Core.List.{◌∷◌}
 use mathlib.Core.Logic.{◌≢◌}
 use mathlib.Core.Path.{◌∙◌, ◌≡◌, ap, refl, sym}
 use Rattle.book.proofs.Algebra.{add_neg_cancel, apart, inverse-mul, neg-zero, ring, undone, zeros}

@@ -10,7 +10,6 @@ use lib.Ieee.Nearest.{div_same}
 use lib.Ieee.Positive.{den, den_pos}
 use lib.Ieee.Scale.{finite}
 use lib.Pow.{pow-lt}
-use Rattle.float.proofs.Integers.{small}
 use Rattle.float.proofs.Order.{Cross, le-trans-float, nn, pp}
 use Rattle.float.proofs.Rounding.{Parts, Rounds, mul-anti-r, mul-mono-r, mul-rounds, own-parts, parts-le, parts-of, rounds-mono, zero-value}
 use Rattle.float.specs.Notation.{zero, one}

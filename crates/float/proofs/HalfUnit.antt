@@ -2,12 +2,11 @@
 use Rattle.std.proofs.Common.{◌≡◌, ℕ, suc, ◌+◌, ◌-◌, ◌*◌, ◌/◌, ◌%◌, ◌^◌, ◌<◌, ◌≤◌, not, T, subst, le_trans, mul-le-mul_right, div-lt_iff_lt-mul, mul-le-mul_left, div-add-mod', arith, eqb→eq, pow_mono}
 use Prim.Native.Nat.{Ordering, compare}
 use lib.Dec.{compare_is_eq, is_le, nleb→lt}
-use lib.Ieee.{Format, below, low, nearest, prec, size}
+use lib.Ieee.{Format, low, nearest, prec, size}
 use lib.Ieee.Digits.{size-le}
 use lib.Ieee.Nearest.{closest}
 use lib.Ieee.Order.{drop, kept}
 use lib.Ieee.Scale.{grid}
-use Rattle.float.specs.Notation.{one}
 
 tie : (q u : ℕ) → (q + q % 2) * u ≤ q * u + u
 tie q u = le_trans (mul-le-mul_right u (one q)) (omega arith)

@@ -1,6 +1,6 @@
 -- Floats below 2 ^ 24 in size as integers: the cut of such a float is below 2 ^ 24 too, so the machine and the format hold it. Assumes nothing.
 use Rattle.std.proofs.Common.{◌≡◌, ℕ, zero, suc, ◌+◌, ◌-◌, ◌*◌, ◌/◌, ◌^◌, ◌<◌, min, Bool, true, false, ◌||◌, T, ltb, pos, neg_ℤ, subst, div-lt_iff_lt-mul, arith, le→leb, ltb→lt, lt→ltb, w32, SFits}
-use lib.Ieee.{Float, binary32, down, fin, fits, in_float, inf, le, lt, nan, to_signed, up}
+use lib.Ieee.{Float, binary32, down, fin, in_float, inf, le, lt, nan, to_signed, up}
 use lib.Ieee.Fits.{down_pos}
 use lib.Signed.{mag}
 

@@ -3,7 +3,7 @@
 use Prim.Native.Nat as Nat
 use Rattle.std.proofs.Common.{◌≡◌, ℕ, suc, ◌+◌, ◌-◌, ◌*◌, ◌^◌, ◌<◌, ◌≤◌, Bool, true, false, cond, not, T, ltb, sym, refl, ap, ◌∙◌, inl, inr, true≢false, le_refl, mul-le-mul_right, eq-zero-or-pos, mul-le-mul, mul-pos, zero-mul, not-le_of_lt, le_of_mul-le-mul_right, arith, ltb→lt, nltb→le, pow_pos}
 use lib.Dec.{eqb-suc-zero}
-use lib.Ieee.{Float, Format, add, div, down, emax, fin, inf, le, low, mul, nan, neg, prec, round, size, sub, sum, up}
+use lib.Ieee.{Float, Format, add, div, down, emax, fin, inf, le, low, mul, nan, neg, prec, round, sub, sum, up}
 use lib.Ieee.Exact.{HasValue, round_exact}
 use lib.Ieee.Fits.{up_pos}
 use lib.Ieee.Order.{round_mono}

@@ -1,6 +1,5 @@
 -- How many times ln 2 is in an argument from -87 to 88: what the code asks of that number, an exponent from -126 to 127. Each
 -- operation is monotone, so the ends decide. Assumes nothing.
-use Prim.Native.Nat.{◌^◌}
 use lib.Dec.{T, leb→le, le→leb}
 use lib.Ieee.{Float, add, binary32, fin, in_float, is_nan, le, lt, mul, ne, neg, of_bits, round, sub, to_signed}
 use lib.Ieee.Bits.{is_false}

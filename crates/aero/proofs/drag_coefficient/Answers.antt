@@ -1,6 +1,5 @@
 -- `aero::drag_coefficient` meets its contract. Assumes nothing.
 use lib.Ieee.{of_bits, round}
-use borrow.Author.Rules.{rules}
 use Rattle.book.specs.Equations as book
 use Rattle.aero.specs.Coefficients.{drag_coefficient, linear_lift}
 use Rattle.aero.proofs.drag_coefficient.Goals as goal

@@ -1,6 +1,5 @@
 -- `aero::exponent` meets its contract. Assumes nothing.
 use lib.Ieee.{neg, of_bits, round}
-use borrow.Author.Rules.{rules}
 use Rattle.aero.specs.Coefficients.{exponent, hold}
 use Rattle.aero.proofs.exponent.Goals as goal
 

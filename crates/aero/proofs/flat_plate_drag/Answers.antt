@@ -1,5 +1,4 @@
 -- `aero::flat_plate_drag` meets its contract. Assumes nothing.
-use borrow.Author.Rules.{rules}
 use Rattle.aero.specs.Coefficients.{flat_plate_drag, flat_plate_pressure_drag}
 use Rattle.aero.proofs.flat_plate_drag.Goals as goal
 

@@ -1,6 +1,5 @@
 -- `aero::flat_plate_lift` meets its contract. Assumes nothing.
 use lib.Ieee.{of_bits, round}
-use borrow.Author.Rules.{rules}
 use Rattle.aero.specs.Coefficients.{flat_plate_lift}
 use Rattle.aero.proofs.flat_plate_lift.Goals as goal
 

@@ -1,6 +1,5 @@
 -- `aero::flow_drag_n` meets its contract. Assumes nothing.
 use lib.Ieee.{of_bits, round}
-use borrow.Author.Rules.{rules}
 use Rattle.aero.specs.Wrench.{flow_drag}
 use Rattle.aero.proofs.flow_drag_n.Goals as goal
 

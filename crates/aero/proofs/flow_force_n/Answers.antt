@@ -1,5 +1,4 @@
 -- `aero::flow_force_n` meets its contract. Assumes nothing.
-use borrow.Author.Rules.{rules}
 use Rattle.aero.specs.Wrench.{flow_force, flow_lift}
 use Rattle.aero.proofs.flow_force_n.Goals as goal
 

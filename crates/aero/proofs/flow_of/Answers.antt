@@ -1,11 +1,10 @@
 -- `aero::flow_of` meets its contract. Assumes nothing.
-use borrow.Author.Rules.{rules}
 use Rattle.aero.specs.Wrench.{flow_at, flow_of}
 use Rattle.aero.proofs.flow_of.Goals as goal
 
 pub returns : goal.returns
 unfolding flow_of flow_at
-returns c = 
+returns c =
     simp (
       c.pressure_area_n.ensures,
       c.cosf.ensures,

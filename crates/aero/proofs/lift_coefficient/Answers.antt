@@ -1,6 +1,5 @@
 -- `aero::lift_coefficient` meets its contract. Assumes nothing.
 use lib.Ieee.{of_bits, round}
-use borrow.Author.Rules.{rules}
 use Rattle.aero.specs.Coefficients.{flat_plate_lift, lift_coefficient, linear_lift}
 use Rattle.aero.proofs.lift_coefficient.Goals as goal
 

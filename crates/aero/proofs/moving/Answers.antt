@@ -1,12 +1,11 @@
 -- `aero::moving` meets its contract. Assumes nothing.
 use lib.Ieee.{of_bits, round}
-use borrow.Author.Rules.{rules}
 use Rattle.aero.specs.Wrench.{moving_at, moving_of, surface_free, torque_at}
 use Rattle.aero.proofs.moving.Goals as goal
 
 pub returns : goal.returns
 unfolding moving_of moving_at torque_at surface_free of_bits round
-returns c = 
+returns c =
     simp (
       c.with_surfaces.ensures,
       c.add-torque_nm.ensures,

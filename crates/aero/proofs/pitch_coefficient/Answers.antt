@@ -2,7 +2,6 @@
 use lib.Ieee.{Float, le, of_bits}
 use mathlib.Core.Bool.{cond, false, true}
 use mathlib.Core.Path.{◌≡◌}
-use borrow.Author.Rules.{rules}
 use Rattle.float.specs.Notation.{◌⊕◌, ◌⊖◌, ◌⊗◌, zero}
 use Rattle.book.specs.Equations as book
 use Rattle.aero.specs.Coefficients.{attached_pitch, pitch_coefficient}

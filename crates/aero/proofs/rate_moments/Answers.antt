@@ -1,6 +1,5 @@
 -- `aero::rate_moments` meets its contract. Assumes nothing.
 use lib.Ieee.{of_bits, round}
-use borrow.Author.Rules.{rules}
 use Rattle.aero.specs.Wrench.{rate_moments}
 use Rattle.aero.proofs.rate_moments.Goals as goal
 

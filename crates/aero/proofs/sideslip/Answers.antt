@@ -1,6 +1,5 @@
 -- `aero::sideslip` meets its contract. Assumes nothing.
 use lib.Ieee.{neg, of_bits}
-use borrow.Author.Rules.{rules}
 use Rattle.aero.specs.Wrench.{sideslip}
 use Rattle.aero.proofs.sideslip.Goals as goal
 

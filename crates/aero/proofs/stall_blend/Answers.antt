@@ -1,6 +1,5 @@
 -- `aero::stall_blend` meets its contract. Assumes nothing.
 use lib.Ieee.{of_bits, round}
-use borrow.Author.Rules.{rules}
 use Rattle.book.specs.Equations as book
 use Rattle.aero.specs.Coefficients.{exponent, stall_blend}
 use Rattle.aero.proofs.stall_blend.Goals as goal

@@ -1,5 +1,4 @@
 -- `aero::static_nm` meets its contract. Assumes nothing.
-use borrow.Author.Rules.{rules}
 use Rattle.aero.specs.Wrench.{static_moments}
 use Rattle.aero.proofs.static_nm.Goals as goal
 

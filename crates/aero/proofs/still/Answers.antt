@@ -1,12 +1,11 @@
 -- `aero::still` meets its contract. Assumes nothing.
 use lib.Ieee.{of_bits}
-use borrow.Author.Rules.{rules}
 use Rattle.aero.specs.Wrench.{still_of}
 use Rattle.aero.proofs.still.Goals as goal
 
 pub returns : goal.returns
 unfolding still_of of_bits
-returns c = 
+returns c =
     simp (
       c.add-2.ensures,
       c.rate_moments.ensures,

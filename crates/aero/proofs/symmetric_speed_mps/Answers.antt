@@ -1,5 +1,4 @@
 -- `aero::symmetric_speed_mps` meets its contract. Assumes nothing.
-use borrow.Author.Rules.{rules}
 use Rattle.aero.specs.Wrench.{symmetric_speed}
 use Rattle.aero.proofs.symmetric_speed_mps.Goals as goal
 

@@ -1,6 +1,5 @@
 -- `aero::wash_pitch_nm` meets its contract. Assumes nothing.
 use lib.Ieee.{of_bits}
-use borrow.Author.Rules.{rules}
 use Rattle.aero.specs.Wrench.{wash_pitch}
 use Rattle.aero.proofs.wash_pitch_nm.Goals as goal
 

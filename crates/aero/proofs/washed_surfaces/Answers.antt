@@ -1,5 +1,4 @@
 -- `aero::washed_surfaces` meets its contract. Assumes nothing.
-use borrow.Author.Rules.{rules}
 use Rattle.aero.specs.Wrench.{washed_surfaces}
 use Rattle.aero.proofs.washed_surfaces.Goals as goal
 

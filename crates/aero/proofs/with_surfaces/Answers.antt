@@ -1,5 +1,4 @@
 -- `aero::with_surfaces` meets its contract. Assumes nothing.
-use borrow.Author.Rules.{rules}
 use Rattle.aero.specs.Wrench.{with_surfaces}
 use Rattle.aero.proofs.with_surfaces.Goals as goal
 

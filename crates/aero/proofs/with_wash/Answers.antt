@@ -1,5 +1,4 @@
 -- `aero::with_wash` meets its contract. Assumes nothing.
-use borrow.Author.Rules.{rules}
 use Rattle.aero.specs.Wrench.{with_wash}
 use Rattle.aero.proofs.with_wash.Goals as goal
 

@@ -1,12 +1,11 @@
 -- `aero::wrench` meets its contract. Assumes nothing.
 use lib.Ieee.{of_bits}
-use borrow.Author.Rules.{rules}
 use Rattle.aero.specs.Wrench.{aero_wrench}
 use Rattle.aero.proofs.wrench.Goals as goal
 
 pub returns-then-speed_mps : goal.returns-then-speed_mps
 unfolding aero_wrench of_bits
-returns-then-speed_mps c = 
+returns-then-speed_mps c =
     simp (
       c.moving.ensures,
       c.sideslip-beta_rad.ensures,

@@ -2,7 +2,6 @@
 use Prim.Native.Nat.{◌+◌, suc, ℕ}
 use lib.Ieee.{of_bits, round}
 use mathlib.Core.Path.{◌≡◌}
-use borrow.Author.Rules.{rules}
 use native.Mathlib.Omega.{arith}
 use Rattle.air.specs.Density.{between, density_of}
 use Rattle.air.proofs.between.Goals as goal
@@ -12,6 +11,6 @@ plus_one n = omega arith
 
 pub returns : goal.returns
 unfolding between density_of of_bits round
-returns c = 
+returns c =
     let b = c in
     rw (b.requires.fact_2, b.requires.fact_3, plus_one b.args.row)

@@ -4,7 +4,6 @@ use lib.Ieee.{le, neg, of_bits, of_int, round}
 use lib.Ieee.Compare.{differs_from_itself}
 use mathlib.Core.Bool.{Bool, false, not, true}
 use mathlib.Core.Path.{◌∙◌, ◌≡◌, ap, subst, sym}
-use borrow.Author.Rules.{rules}
 use Rattle.float.proofs.Order.{same_number}
 use Rattle.air.proofs.Range.{density-nan}
 use Rattle.air.proofs.Rows.{between_ends}
@@ -21,20 +20,20 @@ past-tests c =
 
 pub returns-then-height_m : goal.returns-then-height_m
 unfolding density_at density_of height_of of_int of_bits neg round
-returns-then-height_m c = 
+returns-then-height_m c =
     let low : le c.args.height_m (height_of 0) ≡ true = c.if-height_m.true in
     rw (c.requires, low)
 
 pub returns-then-height_m-2 : goal.returns-then-height_m-2
 unfolding density_at density_of height_of of_int of_bits neg round
-returns-then-height_m-2 c = 
+returns-then-height_m-2 c =
     let s = c in
     let not_low : le s.args.height_m (height_of 0) ≡ false = c.if-height_m.false in
     let high : le (height_of last_row) s.args.height_m ≡ true = c.if-height_m-2.true in
     rw (s.requires, not_low, high)
 
 pub returns-then-height_m-3 : goal.returns-then-height_m-3
-returns-then-height_m-3 c = 
+returns-then-height_m-3 c =
     let nan_is = differs_from_itself c.args.height_m (subst T (sym c.if-height_m-3.true) tt) in
     nan_is ∙ sym density-nan ∙ ap density_at (sym nan_is)
 
@@ -46,7 +45,7 @@ within_table-requires-clause-fact_2 c = c.requires
 
 pub returns : goal.returns
 unfolding density_at height_of of_int of_bits neg round
-returns c = 
+returns c =
     let e = c in
     let h = e.args.height_m in
     let not_low : le h (height_of 0) ≡ false = e.if-height_m.false in

@@ -3,7 +3,6 @@ use Prim.Native.Nat.{◌*◌, ◌<◌, ℕ}
 use lib.Dec.{T, le→leb}
 use lib.Ieee.{binary32, in_float, of_bits, round}
 use lib.IntN.{pos}
-use borrow.Author.Rules.{rules}
 use native.Mathlib.Omega.{arith}
 use Rattle.air.proofs.Rows.{height-made}
 use Rattle.air.specs.Density.{row_count}

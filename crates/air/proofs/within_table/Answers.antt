@@ -22,6 +22,7 @@ held k l = record { sfits = omega arith }
 
 fit : (k : ℕ) → k < row_count → Fits w32 k
 fit k l = record { fits = omega arith }
+
 module _ (h : Float) (w : Inside h) (z : ℤ) (is : z ≡ guess h) where
   g : Guessed h (guess h)
   g = guessed h w
@@ -80,30 +81,30 @@ overflow_sub-guess c = some (row_guessed c.truncated-guess.result) (row_of c.arg
 
 pub between-requires : goal.between-requires
 unfolding of_bits round
-between-requires c = 
+between-requires c =
     let g = c in
     let less = one_less (row_guessed g.truncated-guess.result) (row_of g.args.height_m) (down c.args.height_m c.requires.fact_1 c.truncated-guess.result c.truncated-guess.ensures.fact_1 c.row_height-row_m.result
     c.row_height-row_m.ensures c.if-height_m-row_m.true) in
     let last = row_inside g.args.height_m g.requires.fact_1 in record {
       fact_1 = subst (λ (k : ℕ). k < last_row) (sym less) last;
       fact_2 = ap (λ (x : Float). x ⊖ rounded 100 1) (c.row_height-row_m.ensures ∙ ap height_of (down c.args.height_m c.requires.fact_1 c.truncated-guess.result c.truncated-guess.ensures.fact_1 c.row_height-row_m.result
-    c.row_height-row_m.ensures c.if-height_m-row_m.true)) ∙ row-lower (row_of g.args.height_m) last ∙ ap height_of (sym less);
+          c.row_height-row_m.ensures c.if-height_m-row_m.true)) ∙ row-lower (row_of g.args.height_m) last ∙ ap height_of (sym less);
       fact_3 = g.requires.fact_2;
     }
 
 pub returns-then-height_m-row_m : goal.returns-then-height_m-row_m
 unfolding of_bits round
-returns-then-height_m-row_m c = 
+returns-then-height_m-row_m c =
     let g = c in
     c.between.ensures ∙ ap (λ (k : ℕ). between k g.args.height_m) (one_less (row_guessed g.truncated-guess.result) (row_of g.args.height_m) (down c.args.height_m c.requires.fact_1 c.truncated-guess.result c.truncated-guess.ensures.fact_1 c.row_height-row_m.result
     c.row_height-row_m.ensures c.if-height_m-row_m.true))
 
 pub between-requires-2 : goal.between-requires-2
 unfolding of_bits round
-between-requires-2 c = 
+between-requires-2 c =
     let g = c in record {
       fact_1 = subst (λ (k : ℕ). k < last_row) (sym (stays c.args.height_m c.requires.fact_1 c.truncated-guess.result c.truncated-guess.ensures.fact_1 c.row_height-row_m.result
-    c.row_height-row_m.ensures c.if-height_m-row_m.false)) (row_inside g.args.height_m g.requires.fact_1);
+          c.row_height-row_m.ensures c.if-height_m-row_m.false)) (row_inside g.args.height_m g.requires.fact_1);
       fact_2 = c.row_height-row_m.ensures;
       fact_3 = g.requires.fact_2;
     }

@@ -6,7 +6,6 @@ use native.Mathlib.Omega.{arith}
 use Rattle.airframe.specs.Acceptance.{first_refused}
 use Rattle.airframe.specs.Numbers.{numbers_count}
 use Rattle.airframe.specs.declared.numbers.Segment.{Segment}
-use borrow.Author.Rules.{rules}
 use Rattle.airframe.proofs.first_refused.Goals as goal
 
 -- what `segment_outside` asks of a segment
@@ -32,7 +31,7 @@ segment_outside-lift-requires c =
 
 pub returns : goal.returns
 unfolding first_refused of_bits round
-returns c = 
+returns c =
     let p = c in
     let s = c in
     simp (

@@ -1,7 +1,6 @@
 -- `airframe::lift_torques_outside` meets its contract. Assumes nothing.
 use lib.Ieee.{of_bits, round}
 use Rattle.airframe.specs.Acceptance.{lift_torques_outside}
-use borrow.Author.Rules.{rules}
 use Rattle.airframe.proofs.lift_torques_outside.Goals as goal
 
 pub returns-then-present : goal.returns-then-present

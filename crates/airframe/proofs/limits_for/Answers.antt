@@ -1,7 +1,6 @@
 -- `airframe::limits_for` meets its contract: the code's table is the definition's, computed. Assumes nothing.
 use lib.Ieee.{neg, of_bits, round}
 use mathlib.Core.Path.{ap, sym}
-use borrow.Author.Rules.{rules}
 use Rattle.airframe.specs.Acceptance.{limits_for, limits_table}
 use Rattle.airframe.proofs.limits_for.Goals as goal
 

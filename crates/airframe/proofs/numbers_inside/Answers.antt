@@ -1,13 +1,11 @@
 -- `airframe::numbers_inside` meets its contract. The invariant: the numbers passed are all inside, or not all. Assumes nothing.
-use Prim.Native.Nat.{◌+◌, ◌-◌, ◌≤◌}
 use mathlib.Core.Bool.{Bool, cond, false}
-use mathlib.Core.Path.{◌∙◌, ◌≡◌, ap, refl}
+use mathlib.Core.Path.{◌∙◌, ap, refl}
 use native.Mathlib.Nat.{le_antisymm}
 use borrow.Author.Rules.{rules}
 use Rattle.ordered.proofs.Ordered.{pass-more}
 use Rattle.ordered.specs.Ordered.{all_pass}
 use Rattle.airframe.specs.Acceptance.{inside_from, number_inside}
-use Rattle.airframe.specs.Numbers.{numbers_count}
 use Rattle.airframe.proofs.numbers_inside.Goals as goal
 
 pub loop-i-init : goal.loop-i-init
@@ -16,7 +14,7 @@ loop-i-init c = (search rules, search rules, refl)
 
 pub loop-i-preserved : goal.loop-i-preserved
 unfolding inside_from number_inside
-loop-i-preserved c = 
+loop-i-preserved c =
     let s = c in (
       search rules,
       search rules,

@@ -1,12 +1,8 @@
 -- `airframe::numbers_inside` meets its contract. The invariant: the numbers passed are all inside, or not all. Assumes nothing.
 use Prim.Native.Nat.{◌+◌, ◌-◌, ◌≤◌}
-use mathlib.Core.Bool.{Bool, cond, false}
-use mathlib.Core.Path.{◌∙◌, ◌≡◌, ap, refl}
-use native.Mathlib.Nat.{le_antisymm}
-use borrow.Author.Rules.{rules}
-use Rattle.ordered.proofs.Ordered.{pass-more}
+use mathlib.Core.Path.{◌≡◌}
 use Rattle.ordered.specs.Ordered.{all_pass}
-use Rattle.airframe.specs.Acceptance.{inside_from, number_inside}
+use Rattle.airframe.specs.Acceptance.{inside_from}
 use Rattle.airframe.specs.Numbers.{numbers_count}
 use Rattle.airframe.proofs.numbers_inside.Given as goal
 

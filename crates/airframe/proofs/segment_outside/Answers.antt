@@ -1,5 +1,4 @@
 -- `airframe::segment_outside` meets its contract. Assumes nothing.
-use borrow.Author.Rules.{rules}
 use Rattle.airframe.specs.Acceptance.{segment_outside}
 use Rattle.airframe.proofs.segment_outside.Goals as goal
 

@@ -1,11 +1,7 @@
 -- `airframe::vectors_inside` meets its contract. Assumes nothing.
-use mathlib.Core.Bool.{Bool, cond, false}
 use Rattle.airframe.specs.Acceptance.{slot_vec_inside}
-use native.Mathlib.Nat.{le_antisymm}
 use Rattle.ordered.specs.Ordered.{all_pass}
-use Rattle.ordered.proofs.Ordered.{pass-more}
-use borrow.Author.Rules.{rules}
-use mathlib.Core.Path.{◌∙◌, ◌≡◌, ap, refl}
+use mathlib.Core.Path.{◌≡◌}
 use Prim.Native.Nat.{◌-◌, ◌≤◌}
 use Rattle.airframe.proofs.vectors_inside.Given as goal
 

@@ -2,7 +2,6 @@
 use Rattle.airframe.specs.Acceptance.{vectors_outside}
 use Rattle.ordered.proofs.Ordered.{pass-none, pass-some, some-eqb}
 use mathlib.Core.Path.{◌∙◌, sym}
-use borrow.Author.Rules.{rules}
 use Rattle.airframe.proofs.vectors_outside.Goals as goal
 
 pub returns-then-vectors_inside : goal.returns-then-vectors_inside

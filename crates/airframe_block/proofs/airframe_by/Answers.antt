@@ -5,7 +5,7 @@ use Rattle.airframe_block.proofs.airframe_by.Goals as goal
 
 pub returns : goal.returns
 unfolding airframe_by
-returns c = 
+returns c =
     let s = c in
     let filled = s.before.before.before in
     simp (

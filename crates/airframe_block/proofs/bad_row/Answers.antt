@@ -12,14 +12,14 @@ loop-k-init c = (search rules, search rules, from_start _ _)
 
 pub returns-then-not-row_fits : goal.returns-then-not-row_fits
 unfolding bad_row row_fits_at
-returns-then-not-row_fits c = 
+returns-then-not-row_fits c =
     let s = c in
     sym (ap (first_fail _ 0) (sym s.live-count.ensures.value) ∙ s.loop-k.invariant.2
     ∙ fail-here _ s.loop-k.k _ c.loop-k-test.true (sym c.row_fits.ensures ∙ not-true c.if-not-row_fits.true-raw))
 
 pub loop-k-preserved : goal.loop-k-preserved
 unfolding row_fits_at
-loop-k-preserved c = 
+loop-k-preserved c =
     let s = c in (
       search rules,
       search rules,
@@ -29,6 +29,6 @@ loop-k-preserved c =
 
 pub returns : goal.returns
 unfolding bad_row
-returns c = 
+returns c =
     let s = c in
     sym (ap (first_fail _ 0) (sym s.live-count.ensures.value) ∙ s.loop-k.invariant.2 ∙ fail-end _ s.loop-k.k _ c.loop-k-test.false)

@@ -17,7 +17,7 @@ announced-said-requires c = small-header _ _ _ c.header_of-h.ensures
 
 -- the length is not the one announced
 pub returns-then-n-to : goal.returns-then-n-to
-returns-then-n-to c = 
+returns-then-n-to c =
     let said = c in
     let a = c in
     let h = c in
@@ -25,7 +25,7 @@ returns-then-n-to c =
     (by_said _ _ _ _ (sym c.in-Bytes.is ∙ a.announced-said.ensures) (c.refused-then-n-to.ensures ∙ length-refused _ _ _ c.if-n-to.true))
 
 pub read_body-requires : goal.read_body-requires
-read_body-requires c = 
+read_body-requires c =
     let said = c in
     let a = c in
     let n = announced-bytes _ _ (sym a.announced-said.ensures ∙ c.in-Bytes.is) in
@@ -36,7 +36,7 @@ read_body-requires c =
 
 -- the header is refused
 pub returns-in-Refused : goal.returns-in-Refused
-returns-in-Refused c = 
+returns-in-Refused c =
     let said = c in
     let a = c in
     let h = c in
@@ -45,7 +45,7 @@ returns-in-Refused c =
 
 -- the rest is read
 pub returns-else-n-to : goal.returns-else-n-to
-returns-else-n-to c = 
+returns-else-n-to c =
     let said = c in
     let a = c in
     let h = c in

@@ -15,7 +15,7 @@ unfolding bytes_of
 reserved_row-requires-clause-fact_2 c = omega arith
 
 pub returns-then-reserved_row-ne0 : goal.returns-then-reserved_row-ne0
-returns-then-reserved_row-ne0 c = 
+returns-then-reserved_row-ne0 c =
     let b = c in
     let a = b.args in
     c.refused.ensures ∙ body_refused a.s.now a.h
@@ -36,7 +36,7 @@ read_numbers-xs-requires c = omega arith
 
 pub returns : goal.returns
 unfolding read_rows
-returns c = 
+returns c =
     let r = c in
     let b = r.before.before in
     let a = b.args in

@@ -8,7 +8,7 @@ use borrow.Author.Rules.{rules}
 use Rattle.airframe_block.proofs.read_numbers.Goals as goal
 
 pub segment_bytes-wash_at-requires : goal.segment_bytes-wash_at-requires
-segment_bytes-wash_at-requires c = 
+segment_bytes-wash_at-requires c =
     let b = c in
     few b.base-base.result (base-holds b.base-base.result b.base-base.ensures)
 
@@ -16,18 +16,18 @@ pub overflow_add-wash_at : goal.overflow_add-wash_at
 overflow_add-wash_at c = record { fits = omega (arith, c.segment_bytes-wash_at.ensures.fact_1 ∙ base-bytes _ c.base-base.ensures) }
 
 pub segment_bytes-requires : goal.segment_bytes-requires
-segment_bytes-requires c = 
+segment_bytes-requires c =
     let w = c in
     few w.wash-wash.result (wash-holds w.wash-wash.result _ w.wash-wash.ensures)
 
 pub overflow_add-lift_at : goal.overflow_add-lift_at
-overflow_add-lift_at c = 
+overflow_add-lift_at c =
     let w = c in
     let base = c.segment_bytes-wash_at.ensures.fact_1 ∙ base-bytes _ w.base-base.ensures in
     record { fits = omega (arith, base, wash-bytes _ _ w.wash-wash.ensures, c.segment_bytes.ensures.fact_1) }
 
 pub read_segment-numbers-requires : goal.read_segment-numbers-requires
-read_segment-numbers-requires c = 
+read_segment-numbers-requires c =
     let b = c in
     let h = b.args.h in
     record {
@@ -36,7 +36,7 @@ read_segment-numbers-requires c =
     }
 
 pub read_segment-washed-requires : goal.read_segment-washed-requires
-read_segment-washed-requires c = 
+read_segment-washed-requires c =
     let n = c in
     let w = n.before.before in
     let b = w.before in
@@ -46,7 +46,7 @@ read_segment-washed-requires c =
     }
 
 pub read_segment-requires : goal.read_segment-requires
-read_segment-requires c = 
+read_segment-requires c =
     let m = c in
     let n = m.before in
     let l = n.before in
@@ -67,7 +67,7 @@ read_segment-requires c =
 
 pub returns : goal.returns
 unfolding numbers_from put_segments segments_of of_bits
-returns c = 
+returns c =
     let m = c in
     let l = m.before.before in
     simp (

@@ -15,7 +15,7 @@ loop-k-init c = (search rules, search rules, refl)
 
 pub loop-k-preserved : goal.loop-k-preserved
 unfolding float_at
-loop-k-preserved c = 
+loop-k-preserved c =
     let s = c in
     (search rules, search rules, numbers_more _ _ _ _ s.loop-k.k s.loop-k.out c.read.result s.loop-k.invariant.2 c.read.ensures)
 

@@ -16,13 +16,13 @@ unfolding put_rows
 loop-k-init c = (search rules, search rules, refl)
 
 pub loop-k-preserved : goal.loop-k-preserved
-loop-k-preserved c = 
+loop-k-preserved c =
     let s = c in
     (search rules, search rules, rows_more _ _ _ s.loop-k.k s.loop-k.rows c.read_row.result s.loop-k.invariant.2 c.read_row.ensures)
 
 pub returns : goal.returns
 unfolding rows_from of_bits
-returns c = 
+returns c =
     let s = c in
     let e = s.loop-k.invariant.2 ∙ ap (put_rows _ _ _) (le_antisymm s.loop-k.invariant.0 c.loop-k-test.false) in
     ap (λ (rows : List MixRow). record { rows = rows; count = s.args.count }) e

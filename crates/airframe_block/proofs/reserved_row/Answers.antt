@@ -12,14 +12,14 @@ loop-k-init c = (search rules, from_start _ _)
 
 pub returns-then-not-bits_clear : goal.returns-then-not-bits_clear
 unfolding reserved_row row_clear
-returns-then-not-bits_clear c = 
+returns-then-not-bits_clear c =
     let s = c in
     sym (s.loop-k.invariant.1 ∙ fail-here _ s.loop-k.k _ c.loop-k-test.true
     (sym c.bits_clear.ensures ∙ not-true c.if-not-bits_clear.true-raw))
 
 pub loop-k-preserved : goal.loop-k-preserved
 unfolding row_clear
-loop-k-preserved c = 
+loop-k-preserved c =
     let s = c in (
       search rules,
       s.loop-k.invariant.1 ∙ fail-next _ s.loop-k.k _ c.loop-k-test.true

@@ -6,7 +6,7 @@ use Rattle.airframe_block.proofs.row_fits.Goals as goal
 
 pub returns-then-factor_fits-2 : goal.returns-then-factor_fits-2
 unfolding row_fits
-returns-then-factor_fits-2 c = 
+returns-then-factor_fits-2 c =
     simp (
       c.factor_fits-then-factor_fits-2.ensures,
       simp (c.factor_fits-then-factor_fits.ensures, c.factor_fits.ensures) at
@@ -18,7 +18,7 @@ returns-then-factor_fits-2 c =
 
 pub returns-then-factor_fits : goal.returns-then-factor_fits
 unfolding row_fits
-returns-then-factor_fits c = 
+returns-then-factor_fits c =
     simp (
       simp (c.factor_fits-then-factor_fits.ensures, c.factor_fits.ensures) at c.if-factor_fits-2.false,
       c.factor_fits-then-factor_fits.ensures,

@@ -5,7 +5,7 @@ use Rattle.arrays.proofs.airframe_in.Goals as goal
 
 pub returns : goal.returns
 unfolding airframe_in airframe_with
-returns c = 
+returns c =
     let r = c in
     let v = r.before.before in
     let m = v.before.before in

@@ -15,7 +15,7 @@ returns-then-k-lt-WASH_AT c = simp (c.kind_number.ensures, lt-ltb _ _ c.if-k-lt-
 
 pub returns-then-k-lt-USED_AT : goal.returns-then-k-lt-USED_AT
 unfolding airframe_number
-returns-then-k-lt-USED_AT c = 
+returns-then-k-lt-USED_AT c =
     simp (
       c.flag_number.ensures,
       lt-ltb _ _ c.if-k-lt-USED_AT.true,
@@ -25,7 +25,7 @@ returns-then-k-lt-USED_AT c =
 
 pub returns-then-k-lt-TORQUES_AT : goal.returns-then-k-lt-TORQUES_AT
 unfolding airframe_number
-returns-then-k-lt-TORQUES_AT c = 
+returns-then-k-lt-TORQUES_AT c =
     let s = c in
     simp (
       c.used_number.ensures,
@@ -37,7 +37,7 @@ returns-then-k-lt-TORQUES_AT c =
 
 pub returns-then-k-lt-WEIGHTS_AT : goal.returns-then-k-lt-WEIGHTS_AT
 unfolding airframe_number
-returns-then-k-lt-WEIGHTS_AT c = 
+returns-then-k-lt-WEIGHTS_AT c =
     let s = c in
     simp (
       c.vecs_number.ensures,
@@ -50,7 +50,7 @@ returns-then-k-lt-WEIGHTS_AT c =
 
 pub returns-then-k-lt-LIFT_NUMBERS_AT : goal.returns-then-k-lt-LIFT_NUMBERS_AT
 unfolding airframe_number
-returns-then-k-lt-LIFT_NUMBERS_AT c = 
+returns-then-k-lt-LIFT_NUMBERS_AT c =
     let s = c in
     let r = s.before.before in
     simp (
@@ -71,7 +71,7 @@ lift_number-requires-clause-fact_2 c = omega arith
 
 pub returns : goal.returns
 unfolding airframe_number
-returns c = 
+returns c =
     let s = c in
     let r = s.before.before in
     simp (

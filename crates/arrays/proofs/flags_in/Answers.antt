@@ -11,7 +11,7 @@ pub loop-k-init : goal.loop-k-init
 loop-k-init c = fill_start _ _ _ (search rules)
 
 pub loop-k-preserved : goal.loop-k-preserved
-loop-k-preserved c = 
+loop-k-preserved c =
     let s = c in fill_more false _ _ s.loop-k.flags s.loop-k.k c.is_set.result c.is_set.ensures
     c.loop-k-test.true s.loop-k.invariant
 

@@ -5,7 +5,7 @@ use Rattle.arrays.proofs.flight_in.Goals as goal
 
 pub returns : goal.returns
 unfolding flight_in
-returns c = 
+returns c =
     let s = c in
     simp (
       c.of.ensures,

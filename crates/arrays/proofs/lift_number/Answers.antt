@@ -14,7 +14,7 @@ returns-then-k-lt-LIFT_USED_AT c = simp (c.flag_number.ensures, lt-ltb _ _ c.if-
 
 pub returns-then-k-lt-LIFT_TORQUES_AT : goal.returns-then-k-lt-LIFT_TORQUES_AT
 unfolding lift_number
-returns-then-k-lt-LIFT_TORQUES_AT c = 
+returns-then-k-lt-LIFT_TORQUES_AT c =
     simp (
       c.used_number.ensures,
       lt-ltb _ _ c.if-k-lt-LIFT_TORQUES_AT.true,
@@ -24,7 +24,7 @@ returns-then-k-lt-LIFT_TORQUES_AT c =
 
 pub returns : goal.returns
 unfolding lift_number
-returns c = 
+returns c =
     simp (
       c.vecs_number.ensures,
       le-ltb _ _ c.if-k-lt-LIFT_TORQUES_AT.false,

@@ -20,7 +20,7 @@ pub loop-k-init : goal.loop-k-init
 loop-k-init c = (search rules, reach-start _ _ _ _ (search rules))
 
 pub loop-k-preserved : goal.loop-k-preserved
-loop-k-preserved c = 
+loop-k-preserved c =
     let s = c in
     let k = s.loop-k.k in
     let before = c.loop-k-test.true in (
@@ -30,12 +30,12 @@ loop-k-preserved c =
     )
 
 pub loop-k-2-init : goal.loop-k-2-init
-loop-k-2-init c = 
+loop-k-2-init c =
     let r = c.loop-k.invariant.1 in
     (c.loop-k-test.false, record { short = r.short; long = r.long; done = r.done; left = λ j l. refl })
 
 pub loop-k-2-preserved : goal.loop-k-2-preserved
-loop-k-2-preserved c = 
+loop-k-2-preserved c =
     let s = c in
     let k = s.loop-k-2.k in
     let behind = s.loop-k-2.invariant.0 in (
@@ -46,6 +46,6 @@ loop-k-2-preserved c =
 
 pub returns : goal.returns
 unfolding numbers_in
-returns c = 
+returns c =
     let s = c in reach-end numbers_count nan _ _ s.loop-k-2.numbers s.loop-k-2.k s.loop-k-2.invariant.1
     (λ k l m. absurd (omega (arith, l, m, c.loop-k-2-test.false)))

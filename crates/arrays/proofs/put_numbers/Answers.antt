@@ -18,7 +18,7 @@ pub loop-i-preserved : goal.loop-i-preserved
 loop-i-preserved c = let s = c in reach-more _ nan _ _ s.loop-i.xs s.loop-i.i _ refl (search rules) s.loop-i.invariant
 
 pub returns : goal.returns
-returns c = 
+returns c =
     let s = c in
     let ns = s.args.numbers.now in
     reach-end (length ns) nan (λ (j : ℕ). at ns j) _ s.loop-i.xs s.loop-i.i s.loop-i.invariant (λ k l m. absurd (omega (arith, l, m, c.loop-i-test.false)))

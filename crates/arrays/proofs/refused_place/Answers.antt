@@ -8,7 +8,7 @@ use Rattle.arrays.proofs.refused_place.Goals as goal
 
 pub returns : goal.returns
 unfolding numbers_in number_at list_of list_from
-returns c = 
+returns c =
     let r = c in
     let p = r.before in
     let w = p.before.before in

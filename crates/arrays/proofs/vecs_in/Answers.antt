@@ -13,7 +13,7 @@ pub loop-k-init : goal.loop-k-init
 loop-k-init c = fill_start _ _ _ (search rules)
 
 pub loop-k-preserved : goal.loop-k-preserved
-loop-k-preserved c = 
+loop-k-preserved c =
     let s = c in fill_more (vec nan nan nan) _ _ s.loop-k.vecs s.loop-k.k c.vec_in.result c.vec_in.ensures
     c.loop-k-test.true s.loop-k.invariant
 

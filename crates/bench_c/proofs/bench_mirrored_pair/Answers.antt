@@ -12,18 +12,18 @@ pub flight_in-f-requires : goal.flight_in-f-requires
 flight_in-f-requires c = omega (arith, (pair_fits _ _ (sym c.pair_fits.ensures ∙ c.if-pair_fits.true)).0)
 
 pub put_end-requires : goal.put_end-requires
-put_end-requires c = 
+put_end-requires c =
     (pair_fits _ _ (sym c.pair_fits.ensures
     ∙ c.if-pair_fits.true)).0
 
 pub put_end-requires-then-pair_fits : goal.put_end-requires-then-pair_fits
-put_end-requires-then-pair_fits c = 
+put_end-requires-then-pair_fits c =
     (pair_fits _ _ (sym c.pair_fits.ensures
     ∙ c.if-pair_fits.true)).1
 
 pub returns-then-pair_fits : goal.returns-then-pair_fits
 unfolding mirrored_pair
-returns-then-pair_fits c = 
+returns-then-pair_fits c =
     let p = c in
     let q = p.pair_by-pair.ensures in
     let x = p.read_airframe.ensures in
@@ -45,6 +45,6 @@ returns-then-pair_fits c =
 pub returns : goal.returns
 unfolding mirrored_pair
 returns c = let e = sym c.pair_fits.ensures ∙ c.if-pair_fits.false in record {
-      fact = (simp e, simp e, simp e, simp e, simp e);
-      pair_mirrors = λ z. absurd (suc-ne-zero 0 z);
-    }
+  fact = (simp e, simp e, simp e, simp e, simp e);
+  pair_mirrors = λ z. absurd (suc-ne-zero 0 z);
+}

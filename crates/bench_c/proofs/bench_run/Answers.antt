@@ -6,7 +6,7 @@ use Rattle.bench_c.proofs.bench_run.Goals as goal
 
 pub returns-then-lent-eq-STATE_NUMBERS : goal.returns-then-lent-eq-STATE_NUMBERS
 unfolding run
-returns-then-lent-eq-STATE_NUMBERS c = 
+returns-then-lent-eq-STATE_NUMBERS c =
     let r = c in
     let l = eq-eqb _ _ r.if-lent-eq-STATE_NUMBERS.true in (
       simp (c.reply.ensures, r.run_by-done.ensures, r.read_airframe.ensures, r.flight_in-f.ensures, l),

@@ -14,15 +14,15 @@ tick_in-t-requires c = omega (arith, (arrays-fit _ _ _ (sym c.arrays_fit.ensures
 
 pub handed_back-requires-clause-fact_1 : goal.handed_back-requires-clause-fact_1
 handed_back-requires-clause-fact_1 c = (arrays-fit _ _ _ (sym c.arrays_fit.ensures
-      ∙ c.if-arrays_fit.true)).0
+    ∙ c.if-arrays_fit.true)).0
 
 pub handed_back-requires-clause-fact_2 : goal.handed_back-requires-clause-fact_2
 handed_back-requires-clause-fact_2 c = (arrays-fit _ _ _ (sym c.arrays_fit.ensures
-      ∙ c.if-arrays_fit.true)).1.1
+    ∙ c.if-arrays_fit.true)).1.1
 
 pub returns-then-arrays_fit : goal.returns-then-arrays_fit
 unfolding tick
-returns-then-arrays_fit c = 
+returns-then-arrays_fit c =
     let h = c in
     let t = h.before.before.before in
     let i = t.before.before.before.before.before in

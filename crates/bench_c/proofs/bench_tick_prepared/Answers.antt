@@ -15,15 +15,15 @@ tick_in-t-requires c = omega (arith, (arrays-fit _ _ _ (sym c.arrays_fit.ensures
 
 pub handed_back-requires-clause-fact_1 : goal.handed_back-requires-clause-fact_1
 handed_back-requires-clause-fact_1 c = (arrays-fit _ _ _ (sym c.arrays_fit.ensures
-      ∙ c.if-arrays_fit.true)).0
+    ∙ c.if-arrays_fit.true)).0
 
 pub handed_back-requires-clause-fact_2 : goal.handed_back-requires-clause-fact_2
 handed_back-requires-clause-fact_2 c = (arrays-fit _ _ _ (sym c.arrays_fit.ensures
-      ∙ c.if-arrays_fit.true)).1.1
+    ∙ c.if-arrays_fit.true)).1.1
 
 pub returns-then-arrays_fit : goal.returns-then-arrays_fit
 unfolding tick_prepared
-returns-then-arrays_fit c = 
+returns-then-arrays_fit c =
     let h = c in
     let t = h.before.before.before in
     let i = t.before.before.before.before in
@@ -36,7 +36,7 @@ returns-then-arrays_fit c =
 
 pub returns-then-airframe-eq-AIRFRAME_NUMBERS : goal.returns-then-airframe-eq-AIRFRAME_NUMBERS
 unfolding tick_prepared
-returns-then-airframe-eq-AIRFRAME_NUMBERS c = 
+returns-then-airframe-eq-AIRFRAME_NUMBERS c =
     let e = sym c.arrays_fit.ensures ∙ c.if-arrays_fit.false in
     let l = eq-eqb _ _ c.if-airframe-eq-AIRFRAME_NUMBERS.true in
     (simp (e, l), simp (e, l), simp (e, l))

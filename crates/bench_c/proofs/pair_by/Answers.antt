@@ -9,7 +9,7 @@ use Rattle.bench_c.proofs.pair_by.Goals as goal
 
 pub returns-then-is_done : goal.returns-then-is_done
 unfolding run_result_by reflected_by
-returns-then-is_done c = 
+returns-then-is_done c =
     let k = c in
     let d = sym c.is_done.ensures ∙ c.if-is_done.true in
     let w = sym k.is_whole.ensures ∙ k.if-is_whole.true in
@@ -18,26 +18,26 @@ returns-then-is_done c =
 
 pub returns-then-is_whole : goal.returns-then-is_whole
 unfolding run_result_by reflected_by
-returns-then-is_whole c = 
+returns-then-is_whole c =
     let k = c in
     let d = sym c.is_done.ensures ∙ c.if-is_done.false in
     let w = sym k.is_whole.ensures ∙ k.if-is_whole.true in
     let p = c.ended_pair.ensures in
     record {
-      first = p.0 ∙ simp (d, w);
-      second = p.1 ∙ simp (d, w);
-      ends = ended-mirror _ _ _ p.0 p.1;
-      theorem = λ z. absurd (eqb-false _ _ d (ended-number _ _ _ p.0 z));
+      first = p.first_value ∙ simp (d, w);
+      second = p.second_value ∙ simp (d, w);
+      ends = ended-mirror _ _ _ p.first_value p.second_value;
+      theorem = λ z. absurd (eqb-false _ _ d (ended-number _ _ _ p.first_value z));
     }
 
 pub returns : goal.returns
 unfolding run_result_by reflected_by
-returns c = 
+returns c =
     let w = sym c.is_whole.ensures ∙ c.if-is_whole.false in
     let p = c.ended_pair-2.ensures in
     record {
-      first = p.0 ∙ simp w;
-      second = p.1 ∙ simp w;
-      ends = ended-mirror _ _ _ p.0 p.1;
-      theorem = λ z. absurd (suc-ne-zero 0 (ended-number _ _ _ p.0 z));
+      first = p.first_value ∙ simp w;
+      second = p.second_value ∙ simp w;
+      ends = ended-mirror _ _ _ p.first_value p.second_value;
+      theorem = λ z. absurd (suc-ne-zero 0 (ended-number _ _ _ p.first_value z));
     }

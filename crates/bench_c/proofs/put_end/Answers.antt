@@ -6,7 +6,7 @@ use Rattle.bench_c.proofs.put_end.Goals as goal
 
 pub returns-then-is_done : goal.returns-then-is_done
 unfolding state_after_run
-returns-then-is_done c = 
+returns-then-is_done c =
     simp (
       c.put_flight.ensures,
       sym c.is_done.ensures ∙ c.if-is_done.true,

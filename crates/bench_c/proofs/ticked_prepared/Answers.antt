@@ -8,7 +8,7 @@ use borrow.Author.Rules.{rules}
 use Rattle.bench_c.proofs.ticked_prepared.Goals as goal
 
 pub tick_accepted-requires : goal.tick_accepted-requires
-tick_accepted-requires c = 
+tick_accepted-requires c =
     let d = c in
     let b = d.before.before in
     let t = b.before.before in
@@ -24,7 +24,7 @@ returns-then-place-eq0 c = simp (c.tick_accepted.ensures, c.airframe_in-a.ensure
 
 pub returns : goal.returns
 unfolding tick_of tick_with
-returns c = 
+returns c =
     simp (
       c.refused.ensures,
       c.refused_place-place.ensures,

@@ -11,7 +11,7 @@ loop-k-init c = fill_start _ _ _ (search rules)
 
 pub loop-k-preserved : goal.loop-k-preserved
 unfolding slot_from float_at
-loop-k-preserved c = 
+loop-k-preserved c =
     let s = c in
     fill_more nan _ _ s.loop-k.xs s.loop-k.k c.read.result c.read.ensures c.loop-k-test.true s.loop-k.invariant
 

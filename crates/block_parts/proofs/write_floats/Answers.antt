@@ -14,7 +14,7 @@ loop-k-init c = (search rules, refl, refl)
 
 pub loop-k-preserved : goal.loop-k-preserved
 unfolding put_float
-loop-k-preserved c = 
+loop-k-preserved c =
     let s = c in
     let w = c.write in
     (search rules, ap length w.ensures ∙ (simp length-set) ∙ s.loop-k.invariant.1, put-slot _ _ _ s.loop-k.k _ _ s.loop-k.invariant.2 w.ensures)

@@ -5,7 +5,7 @@ use Rattle.block_parts.proofs.write_vec.Goals as goal
 
 pub returns : goal.returns
 unfolding put_vec put_float
-returns c = 
+returns c =
     let z = c in
     let y = z.before.before.before.before in
     let x = y.before.before.before.before in

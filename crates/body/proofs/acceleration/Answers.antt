@@ -1,6 +1,5 @@
 -- `body::acceleration` meets its contract. Assumes nothing.
 use lib.Ieee.{of_bits, round}
-use borrow.Author.Rules.{rules}
 use Rattle.body.specs.Motion.{acceleration_of}
 use Rattle.body.proofs.acceleration.Goals as goal
 

@@ -1,5 +1,4 @@
 -- `body::net_torque` meets its contract. Assumes nothing.
-use borrow.Author.Rules.{rules}
 use Rattle.body.specs.Motion.{net_torque}
 use Rattle.body.proofs.net_torque.Goals as goal
 

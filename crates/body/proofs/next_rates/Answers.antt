@@ -1,5 +1,4 @@
 -- `body::next_rates` meets its contract. Assumes nothing.
-use borrow.Author.Rules.{rules}
 use Rattle.body.specs.Motion.{next_rates}
 use Rattle.body.proofs.next_rates.Goals as goal
 

@@ -1,6 +1,5 @@
 -- `fixed_wing::pitch_speed_share` meets its contract. Assumes nothing.
 use lib.Ieee.{of_bits}
-use borrow.Author.Rules.{rules}
 use Rattle.fixed_wing.specs.Falloff.{pitch_speed_share}
 use Rattle.fixed_wing.proofs.pitch_speed_share.Goals as goal
 

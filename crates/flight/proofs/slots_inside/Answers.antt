@@ -5,8 +5,7 @@ use native.Mathlib.Nat.{le_antisymm}
 use Rattle.ordered.specs.Ordered.{all_pass}
 use Rattle.ordered.proofs.Ordered.{pass-more}
 use borrow.Author.Rules.{rules}
-use mathlib.Core.Path.{◌∙◌, ◌≡◌, ap, refl}
-use Prim.Native.Nat.{◌-◌, ◌≤◌}
+use mathlib.Core.Path.{◌∙◌, ap, refl}
 use Rattle.flight.proofs.slots_inside.Goals as goal
 
 pub loop-i-init : goal.loop-i-init
@@ -15,7 +14,7 @@ loop-i-init c = (search rules, refl)
 
 pub loop-i-preserved : goal.loop-i-preserved
 unfolding slot_inside
-loop-i-preserved c = 
+loop-i-preserved c =
     let s = c in (
       search rules,
       pass-more _ s.loop-i.i s.loop-i.ok _ s.loop-i.invariant.1

@@ -1,11 +1,7 @@
 -- `flight::slots_inside` meets its contract. Assumes nothing.
-use mathlib.Core.Bool.{Bool, cond, false}
 use Rattle.flight.specs.Envelope.{slot_inside}
-use native.Mathlib.Nat.{le_antisymm}
 use Rattle.ordered.specs.Ordered.{all_pass}
-use Rattle.ordered.proofs.Ordered.{pass-more}
-use borrow.Author.Rules.{rules}
-use mathlib.Core.Path.{◌∙◌, ◌≡◌, ap, refl}
+use mathlib.Core.Path.{◌≡◌}
 use Prim.Native.Nat.{◌-◌, ◌≤◌}
 use Rattle.flight.proofs.slots_inside.Given as goal
 

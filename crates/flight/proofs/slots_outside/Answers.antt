@@ -1,11 +1,9 @@
 -- `flight::slots_outside` meets its contract. Assumes nothing.
 use Rattle.flight.specs.Envelope.{slot_inside, slots_outside}
-use Rattle.ordered.specs.Ordered.{first_fail}
 use Rattle.ordered.proofs.Ordered.{fail-end, fail-here, fail-next, not-false, not-true, pass-none}
 use borrow.Author.Rules.{rules}
 use native.Mathlib.Omega.{arith}
-use mathlib.Core.Path.{◌∙◌, ◌≡◌, refl, sym}
-use Prim.Native.Nat.{◌-◌, ◌≤◌}
+use mathlib.Core.Path.{◌∙◌, refl, sym}
 use Rattle.flight.proofs.slots_outside.Goals as goal
 
 pub returns-then-slots_inside-clause-fact_1 : goal.returns-then-slots_inside-clause-fact_1
@@ -21,7 +19,7 @@ loop-i-init c = (search rules, refl)
 
 pub returns-then-not-inside : goal.returns-then-not-inside
 unfolding slots_outside slot_inside
-returns-then-not-inside c = 
+returns-then-not-inside c =
     let s = c in record {
       fact_1 = sym (s.loop-i.invariant.1 ∙ fail-here _ s.loop-i.i 8 c.loop-i-test.true
           (sym c.inside.ensures ∙ not-true c.if-not-inside.true-raw));
@@ -30,7 +28,7 @@ returns-then-not-inside c =
 
 pub loop-i-preserved : goal.loop-i-preserved
 unfolding slot_inside
-loop-i-preserved c = 
+loop-i-preserved c =
     let s = c in (
       search rules,
       s.loop-i.invariant.1 ∙ fail-next _ s.loop-i.i 8 c.loop-i-test.true

@@ -1,10 +1,7 @@
 -- `flight::slots_outside` meets its contract. Assumes nothing.
-use Rattle.flight.specs.Envelope.{slot_inside, slots_outside}
+use Rattle.flight.specs.Envelope.{slot_inside}
 use Rattle.ordered.specs.Ordered.{first_fail}
-use Rattle.ordered.proofs.Ordered.{fail-end, fail-here, fail-next, not-false, not-true, pass-none}
-use borrow.Author.Rules.{rules}
-use native.Mathlib.Omega.{arith}
-use mathlib.Core.Path.{◌∙◌, ◌≡◌, refl, sym}
+use mathlib.Core.Path.{◌≡◌}
 use Prim.Native.Nat.{◌-◌, ◌≤◌}
 use Rattle.flight.proofs.slots_outside.Given as goal
 

@@ -1,5 +1,5 @@
 -- `float::from_bits` meets its contract: of the patterns above the infinity's, the sign aside, every one is a NaN's, and of the others none. Assumes nothing.
-use Rattle.std.proofs.Common.{sym, ◌∙◌, arith, rules}
+use Rattle.std.proofs.Common.{sym, ◌∙◌, arith}
 use Rattle.float.proofs.Patterns.{not-nan-pattern, nan_pattern, zero_by_zero}
 use Rattle.float.proofs.from_bits.Goals as goal
 

@@ -1,5 +1,4 @@
 -- `float::read` meets its contract: four bytes are below 256 each, so the word is below 2 ^ 32. Assumes nothing.
-use Rattle.std.proofs.Common.{rules}
 use Rattle.float.proofs.read.Goals as goal
 
 pub returns : goal.returns

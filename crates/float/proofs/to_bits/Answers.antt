@@ -1,5 +1,5 @@
 -- `float::to_bits` meets its contract: what differs from itself is a NaN, and only for a NaN are the bits chosen. Assumes nothing.
-use Rattle.std.proofs.Common.{◌≡◌, T, sym, ap, subst, rules}
+use Rattle.std.proofs.Common.{◌≡◌, T, sym, ap, subst}
 use lib.Ieee.{Float, nan, binary32, to_bits}
 use lib.Ieee.Compare.{differs_from_itself}
 use Rattle.float.proofs.Patterns.{no_nan}

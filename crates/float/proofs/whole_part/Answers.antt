@@ -28,7 +28,7 @@ int_to_float-result c = subst (λ (z : ℤ). T (in_float binary32 z)) (sym (read
 
 pub returns-then-x-2 : goal.returns-then-x-2
 unfolding of_bits neg
-returns-then-x-2 c = 
+returns-then-x-2 c =
     ap (of_int binary32) (read c ∙ c.truncated.ensures.fact_1)
     ∙ sym (part c.args.x true true c.if-x.true c.if-x-2.true)
 

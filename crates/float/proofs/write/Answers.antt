@@ -1,5 +1,5 @@
 -- `float::write` meets its contract. Assumes nothing.
-use Rattle.std.proofs.Common.{arith, length-set, rules}
+use Rattle.std.proofs.Common.{arith, length-set}
 use Rattle.float.proofs.write.Goals as goal
 
 pub bounds-s-i-2 : goal.bounds-s-i-2

@@ -1,5 +1,4 @@
 -- `lag::approach_saturated` meets its contract. Assumes nothing.
-use borrow.Author.Rules.{rules}
 use Rattle.lag.specs.Lag.{approach_saturated}
 use Rattle.lag.proofs.approach_saturated.Goals as goal
 

@@ -1,6 +1,5 @@
 -- `lag::factor` meets its contract. Assumes nothing.
 use lib.Ieee.{of_bits}
-use borrow.Author.Rules.{rules}
 use Rattle.lag.specs.Lag.{factor_of}
 use Rattle.lag.proofs.factor.Goals as goal
 

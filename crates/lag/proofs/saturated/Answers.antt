@@ -1,5 +1,4 @@
 -- `lag::saturated` meets its contract. Assumes nothing.
-use borrow.Author.Rules.{rules}
 use Rattle.lag.specs.Lag.{saturated}
 use Rattle.lag.proofs.saturated.Goals as goal
 

@@ -1,6 +1,6 @@
 -- `lent_rows::fill_from_rows` meets its contract: the array holds 16 rows by its type, so the lent list fills what the array form fills. Assumes nothing.
-use lib.ListN.{length, length-map}
-use mathlib.Core.Path.{◌∙◌, ◌≡◌, ap, sym}
+use lib.ListN.{length}
+use mathlib.Core.Path.{◌∙◌, ◌≡◌, ap}
 use borrow.Author.Rules.{rules}
 use Rattle.lent_rows.specs.Mixing.{mix_of, surfaces_in}
 use Rattle.lent_rows.specs.declared.Mix.{Mix}
@@ -9,7 +9,7 @@ use Rattle.lent_rows.proofs.fill_from_rows.Goals as goal
 
 pub returns : goal.returns
 unfolding mix_of
-returns c = 
+returns c =
     let s = c in
     let rows = s.args.rows in
     let long : length rows.rows ≡ 16 = search rules in

@@ -1,12 +1,10 @@
 -- `mixers::reflected_axes` meets its contract. Assumes nothing.
-use Prim.Native.Nat.{◌-◌, ℕ}
 use borrow.Author.Rules.{rules}
 use lib.Ieee.{nan}
 use mathlib.Core.Path.{◌∙◌, ap}
 use native.Mathlib.Nat.{le_refl}
-use Rattle.mixers.proofs.Slots.{Filled, fill_end, fill_more, fill_start, map-slots}
+use Rattle.mixers.proofs.Slots.{fill_end, fill_more, fill_start, map-slots}
 use Rattle.mixers.specs.Reflection.{reflect_axes}
-use Rattle.mixers.specs.Slots.{vec_at}
 use Rattle.vector.specs.Reflection.{reflect_axis}
 use Rattle.vector.specs.Vector.{vec}
 use Rattle.mixers.proofs.reflected_axes.Goals as goal
@@ -15,7 +13,7 @@ pub loop-i-init : goal.loop-i-init
 loop-i-init c = fill_start _ _ _ (search rules)
 
 pub loop-i-preserved : goal.loop-i-preserved
-loop-i-preserved c = 
+loop-i-preserved c =
     let s = c in
     let i = s.loop-i.i in
     fill_more (vec nan nan nan) _ _ s.loop-i.out i c.reflected_axis.result
@@ -23,7 +21,7 @@ loop-i-preserved c =
 
 pub returns : goal.returns
 unfolding reflect_axes
-returns c = 
+returns c =
     let s = c in
     fill_end (vec nan nan nan) _ _ s.loop-i.out s.loop-i.i c.loop-i-test.false s.loop-i.invariant
     ∙ map-slots (vec nan nan nan) reflect_axis s.args.axes (search rules)

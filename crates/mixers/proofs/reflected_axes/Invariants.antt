@@ -1,11 +1,7 @@
 -- `mixers::reflected_axes` meets its contract. Assumes nothing.
 use Prim.Native.Nat.{◌-◌, ℕ}
-use borrow.Author.Rules.{rules}
 use lib.Ieee.{nan}
-use mathlib.Core.Path.{◌∙◌, ap}
-use native.Mathlib.Nat.{le_refl}
-use Rattle.mixers.proofs.Slots.{Filled, fill_end, fill_more, fill_start, map-slots}
-use Rattle.mixers.specs.Reflection.{reflect_axes}
+use Rattle.mixers.proofs.Slots.{Filled}
 use Rattle.mixers.specs.Slots.{vec_at}
 use Rattle.vector.specs.Reflection.{reflect_axis}
 use Rattle.vector.specs.Vector.{vec}

@@ -1,6 +1,5 @@
 -- `motors::spun` meets its contract. Assumes nothing.
 use lib.Ieee.{of_bits}
-use borrow.Author.Rules.{rules}
 use Rattle.motors.specs.Motor.{spun}
 use Rattle.motors.proofs.spun.Goals as goal
 

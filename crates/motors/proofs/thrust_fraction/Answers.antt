@@ -2,7 +2,6 @@
 use lib.Ieee.{eq, of_bits}
 use mathlib.Core.Bool.{false, true}
 use mathlib.Core.Path.{◌≡◌}
-use borrow.Author.Rules.{rules}
 use Rattle.float.specs.Notation.{two}
 use Rattle.motors.specs.Motor.{thrust_fraction}
 use Rattle.motors.proofs.thrust_fraction.Goals as goal
@@ -13,6 +12,6 @@ returns-then-thrust_exponent c = let t : eq c.args.thrust_exponent two ≡ true 
 
 pub returns : goal.returns
 unfolding thrust_fraction of_bits
-returns c = 
+returns c =
     let t : eq c.args.thrust_exponent two ≡ false = c.if-thrust_exponent.false in
     simp (t, c.powf_with.ensures)

@@ -1,6 +1,5 @@
 -- `ordered::after` meets its contract. Assumes nothing.
 use mathlib.Core.Path.{sym}
-use borrow.Author.Rules.{rules}
 use Rattle.ordered.proofs.Ordered.{after-some, after-zero}
 use Rattle.ordered.proofs.after.Goals as goal
 

@@ -23,7 +23,7 @@ use Rattle.run.proofs.fly_all.Goals as goal
 
 pub loop-i-init : goal.loop-i-init
 unfolding ticks_from
-loop-i-init c = 
+loop-i-init c =
     let s = c in (
       search rules,
       search rules,
@@ -35,7 +35,7 @@ loop-i-init c =
     )
 
 pub cached_lag_factors-lags-requires : goal.cached_lag_factors-lags-requires
-cached_lag_factors-lags-requires c = 
+cached_lag_factors-lags-requires c =
     let s = c in
     record {
       fact_1 = s.loop-i.invariant.5;
@@ -43,7 +43,7 @@ cached_lag_factors-lags-requires c =
     }
 
 pub tick_inside-done-requires : goal.tick_inside-done-requires
-tick_inside-done-requires c = 
+tick_inside-done-requires c =
     let s = c in
     let begun = s.before.before.before in
     let start = begun.before.before.before.before in
@@ -57,18 +57,18 @@ tick_inside-done-requires c =
     }
 
 pub overflow_add-accepted : goal.overflow_add-accepted
-overflow_add-accepted c = 
+overflow_add-accepted c =
     let t = c in
     let s = t.before in
     record { fits = omega (arith, s.loop-i.invariant.1, t.loop-i-test.true, c.one_if_done-accepted.ensures.fact_2, s.loop-i.invariant.6.fits) }
 
 pub overflow_add-i : goal.overflow_add-i
-overflow_add-i c = 
+overflow_add-i c =
     let t = c in
     record { fits = omega (arith, t.loop-i-test.true, t.loop-i.invariant.6.fits) }
 
 pub loop-i-preserved : goal.loop-i-preserved
-loop-i-preserved c = 
+loop-i-preserved c =
     let s = c in
     let a = s.args in
     let i = s.loop-i.i in
@@ -92,7 +92,7 @@ loop-i-preserved c =
 
 pub returns : goal.returns
 unfolding track_flown run_of run_from
-returns c = 
+returns c =
     let s = c in
     let a = s.args in
     let start : Progress = record { flight = a.f; accepted = 0 } in

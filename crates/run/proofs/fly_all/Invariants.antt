@@ -22,7 +22,7 @@ use Rattle.run.specs.Run.{Progress, ended, progressed, run_from, run_of}
 use Rattle.run.proofs.fly_all.Given as goal
 
 abbrev pub invariant-loop-i : goal.invariant-loop-i
-invariant-loop-i l =     let start : Progress = record { flight = l.initial.flight; accepted = 0 } in
+invariant-loop-i l = let start : Progress = record { flight = l.initial.flight; accepted = 0 } in
     (l.i ≤ l.count)
     × (l.accepted ≤ l.i)
     × (l.count ≡ tick_count l.trace)

@@ -17,7 +17,7 @@ use Rattle.run.proofs.mirrored_pair.Goals as goal
 
 pub returns : goal.returns
 unfolding track_result run_result_of
-returns c = 
+returns c =
     let k = c in
     let a = k.args in
     let s = a.trace.now in
@@ -25,8 +25,8 @@ returns c =
     let bytes : Bytes s = λ i. omega (arith, k.shared_slice_known-1.given i) in
     -- what owning the state tells: the running values of its motors and lift rotors are 32-bit floats
     let held : Representable a.f = record {
-      motors = record { motor = λ k l. field-representable a.f.motors _ k c.well_formed.1.0.1.1.1.1.1.1.1.1.1.1.1.1.1.1.1.0.1 };
-      lift = record { motor = λ k l. field-representable a.f.lift_motors _ k c.well_formed.1.0.1.1.1.1.1.1.1.1.1.1.1.1.1.1.1.1.1.1.0.1 };
+      motors = record { motor = λ k l. field-representable a.f.motors _ k c.well_formed.1.0.1.1.1.1.1.1.1.1.1.1.1.1.1.1.1.0.1.1 };
+      lift = record { motor = λ k l. field-representable a.f.lift_motors _ k c.well_formed.1.0.1.1.1.1.1.1.1.1.1.1.1.1.1.1.1.1.1.1.0.1.1 };
     } in
     let second : c.run_track-second.result ≡ run_result_over (reflect_airframe a.a) (reflect_flight a.f) s (map reflect_tick ts) = c.run_track-second.ensures
     ∙ rw (c.reflected.ensures, c.reflected-2.ensures, reflected-track ts) in

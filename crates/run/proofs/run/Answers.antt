@@ -9,6 +9,6 @@ use Rattle.run.proofs.run.Goals as goal
 
 pub returns : goal.returns
 unfolding track_result run_result_of
-returns c = 
+returns c =
     let a = c.args in
     c.run_track.ensures ∙ ap (run_result_over a.a a.f a.trace.now) (plain-track (ticks_of a.trace.now))

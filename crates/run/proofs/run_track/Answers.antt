@@ -19,13 +19,13 @@ fly_all-requires-clause-fact_2 c = sym c.is_inside.ensures ∙ c.if-is_inside.tr
 
 pub returns-then-is_inside : goal.returns-then-is_inside
 unfolding track_result run_result_over track_flown
-returns-then-is_inside c = 
+returns-then-is_inside c =
     let k = c in
     rw (sym k.is_whole.ensures ∙ k.if-is_whole.true) c.fly_all.ensures
 
 pub returns-then-refused_place-eq0 : goal.returns-then-refused_place-eq0
 unfolding track_result run_result_over run_of
-returns-then-refused_place-eq0 c = 
+returns-then-refused_place-eq0 c =
     let k = c in
     let a = k.args in
     let o : is_inside a.f ≡ false = sym c.is_inside.ensures ∙ c.if-is_inside.false in
@@ -36,7 +36,7 @@ returns-then-refused_place-eq0 c =
 
 pub returns-then-is_whole : goal.returns-then-is_whole
 unfolding track_result run_result_over run_of
-returns-then-is_whole c = 
+returns-then-is_whole c =
     let k = c in
     let a = k.args in
     let n : refused_place a.a ≡ 0 → ⊥ = λ e. c.if-refused_place-eq0.false (c.refused_place.ensures ∙ e) in

@@ -5,7 +5,7 @@ use Rattle.state_block.proofs.read_flight.Goals as goal
 
 pub returns : goal.returns
 unfolding flight_with
-returns c = 
+returns c =
     let b = c in
     simp (
       c.of.ensures,

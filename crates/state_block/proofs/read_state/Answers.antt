@@ -7,7 +7,7 @@ use Rattle.state_block.proofs.read_state.Goals as goal
 
 pub returns-then-n-eq-STATE_BYTES : goal.returns-then-n-eq-STATE_BYTES
 unfolding read_state_of flight_from
-returns-then-n-eq-STATE_BYTES c = 
+returns-then-n-eq-STATE_BYTES c =
     simp (
       c.tested.ensures,
       c.read_flight.ensures,
@@ -18,7 +18,7 @@ returns-then-n-eq-STATE_BYTES c =
 
 pub returns-then-n-eq-LIFT_AT : goal.returns-then-n-eq-LIFT_AT
 unfolding read_state_of of_bits
-returns-then-n-eq-LIFT_AT c = 
+returns-then-n-eq-LIFT_AT c =
     let s = c in
     simp (
       c.tested-then-n-eq-LIFT_AT.ensures,
@@ -30,7 +30,7 @@ returns-then-n-eq-LIFT_AT c =
 
 pub returns-then-n-eq-SCALES_AT : goal.returns-then-n-eq-SCALES_AT
 unfolding read_state_of of_bits
-returns-then-n-eq-SCALES_AT c = 
+returns-then-n-eq-SCALES_AT c =
     let s = c in
     simp (
       c.tested-then-n-eq-SCALES_AT.ensures,
@@ -42,6 +42,6 @@ returns-then-n-eq-SCALES_AT c =
 
 pub returns : goal.returns
 unfolding read_state_of
-returns c = 
+returns c =
     let s = c in
     simp (c.refused.ensures, ne_eqb _ _ s.if-n-eq-SCALES_AT.false, ne_eqb _ _ s.if-n-eq-LIFT_AT.false, ne_eqb _ _ s.if-n-eq-STATE_BYTES.false)

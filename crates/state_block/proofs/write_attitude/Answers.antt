@@ -6,7 +6,7 @@ use Rattle.state_block.proofs.write_attitude.Goals as goal
 
 pub returns : goal.returns
 unfolding put_attitude put_float
-returns c = 
+returns c =
     simp (
       c.write-4.ensures,
       c.write-3.ensures,

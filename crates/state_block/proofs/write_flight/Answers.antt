@@ -10,7 +10,7 @@ use Rattle.state_block.proofs.write_flight.Goals as goal
 
 pub returns : goal.returns
 unfolding put_flight
-returns c = 
+returns c =
     let lift = c in
     let scales = lift.before.before.before.before in
     let servos = scales.before.before.before.before in

@@ -16,7 +16,7 @@ returns-then-lent-ne-STATE_BYTES-clause-value c = simp (ne_eqb _ _ c.if-lent-ne-
 
 pub returns : goal.returns
 unfolding written_state write_answer
-returns c = 
+returns c =
     let s = c in
     record {
       s_after = s.write_flight.ensures ∙ simp (eq-eqb _ _ s.if-lent-ne-STATE_BYTES.false);

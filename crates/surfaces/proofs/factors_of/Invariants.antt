@@ -1,12 +1,8 @@
 -- `surfaces::factors_of` meets its contract: after i iterations the first i rows are put. Assumes nothing.
 use Prim.Native.Nat.{◌-◌, ◌≤◌}
-use mathlib.Core.Path.{◌∙◌, ◌≡◌, ap}
-use native.Mathlib.Nat.{le_antisymm}
-use borrow.Author.Rules.{rules}
-use Rattle.mixers.proofs.Putting.{put-more}
+use mathlib.Core.Path.{◌≡◌}
 use Rattle.mixers.specs.Rows.{put_to}
-use Rattle.surfaces.specs.Surface.{factors_of, no_factors, put_servo_row}
-use Rattle.surfaces.specs.declared.Factors.{Factors}
+use Rattle.surfaces.specs.Surface.{no_factors, put_servo_row}
 use Rattle.surfaces.proofs.factors_of.Given as goal
 
 abbrev pub invariant-loop-i : goal.invariant-loop-i

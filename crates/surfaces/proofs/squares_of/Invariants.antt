@@ -1,11 +1,8 @@
 -- `surfaces::squares_of` meets its contract: after i iterations the sum is that of the first i slots. Assumes nothing.
 use Prim.Native.Nat.{◌-◌, ◌≤◌}
 use mathlib.Core.Path.{◌≡◌}
-use native.Mathlib.Nat.{le_antisymm}
-use borrow.Author.Rules.{rules}
-use Rattle.mixers.proofs.Slots.{vec-sum-more}
 use Rattle.mixers.specs.Slots.{vec_sum_to}
-use Rattle.surfaces.specs.Surface.{square_at, squares_of}
+use Rattle.surfaces.specs.Surface.{square_at}
 use Rattle.surfaces.proofs.squares_of.Given as goal
 
 abbrev pub invariant-loop-i : goal.invariant-loop-i

@@ -1,10 +1,10 @@
 -- `surfaces::weighed` meets its contract: after i iterations the first i slots are weighed and the others as they were. Assumes nothing.
-use Prim.Native.Nat.{◌-◌, ℕ}
+use Prim.Native.Nat.{ℕ}
 use lib.Ieee.{nan}
 use mathlib.Core.Path.{◌∙◌, ◌≡◌, ap}
 use native.Mathlib.Nat.{le_refl}
 use borrow.Author.Rules.{rules}
-use Rattle.mixers.proofs.Slots.{Filled, fill_end, fill_more, fill_start}
+use Rattle.mixers.proofs.Slots.{fill_end, fill_more, fill_start}
 use Rattle.mixers.specs.Slots.{slots, vec_at}
 use Rattle.vector.specs.Vector.{component_mul, vec}
 use Rattle.vector.specs.declared.Vec3.{Vec3}
@@ -15,7 +15,7 @@ pub loop-i-init : goal.loop-i-init
 loop-i-init c = fill_start _ _ _ (search rules)
 
 pub loop-i-preserved : goal.loop-i-preserved
-loop-i-preserved c = 
+loop-i-preserved c =
     let s = c in
     let n = s.before in
     let i = s.loop-i.i in
@@ -25,7 +25,7 @@ loop-i-preserved c =
 
 pub returns : goal.returns
 unfolding weighed weight_at inverse_of
-returns c = 
+returns c =
     let s = c in
     let n = s.before in
     let fs = n.args.factors in

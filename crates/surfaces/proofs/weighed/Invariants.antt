@@ -1,14 +1,9 @@
 -- `surfaces::weighed` meets its contract: after i iterations the first i slots are weighed and the others as they were. Assumes nothing.
 use Prim.Native.Nat.{◌-◌, ℕ}
 use lib.Ieee.{nan}
-use mathlib.Core.Path.{◌∙◌, ◌≡◌, ap}
-use native.Mathlib.Nat.{le_refl}
-use borrow.Author.Rules.{rules}
-use Rattle.mixers.proofs.Slots.{Filled, fill_end, fill_more, fill_start}
-use Rattle.mixers.specs.Slots.{slots, vec_at}
+use Rattle.mixers.proofs.Slots.{Filled}
+use Rattle.mixers.specs.Slots.{vec_at}
 use Rattle.vector.specs.Vector.{component_mul, vec}
-use Rattle.vector.specs.declared.Vec3.{Vec3}
-use Rattle.surfaces.specs.Surface.{inverse_of, squares_of, weighed, weight_at}
 use Rattle.surfaces.proofs.weighed.Given as goal
 
 abbrev pub invariant-loop-i : goal.invariant-loop-i

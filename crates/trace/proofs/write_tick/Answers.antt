@@ -16,7 +16,7 @@ returns-then-lent-ne-TICK_BYTES-clause-value c = simp (ne_eqb _ _ c.if-lent-ne-T
 
 pub returns : goal.returns
 unfolding written_tick write_answer
-returns c = 
+returns c =
     let s = c in
     record {
       s_after = s.write_tick_at.ensures ∙ simp (eq-eqb _ _ s.if-lent-ne-TICK_BYTES.false);

@@ -8,7 +8,7 @@ with_lift-total-requires c = c.requires
 
 pub returns : goal.returns
 unfolding loads_of loads_under aero_of pull_of air_of
-returns c = 
+returns c =
     let s = c in
     let p = s.before.before.before in
     simp (

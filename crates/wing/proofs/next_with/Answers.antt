@@ -16,7 +16,7 @@ loads-loaded-requires c = search (rules, c.requires)
 
 pub returns : goal.returns
 unfolding next_with loads_in spun_of moved_of lag_factor lag_factors_from lag_constants_of of_bits round
-returns c = 
+returns c =
     let l = c in
     let s = l.before.before.before.before.before.before in
     let x = s.before.before.before.before in

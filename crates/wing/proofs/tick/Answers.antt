@@ -12,7 +12,7 @@ use Rattle.wing.specs.Tick.{refused_of, tick_of, tick_with}
 use Rattle.wing.proofs.tick.Goals as goal
 
 pub tick_accepted-requires : goal.tick_accepted-requires
-tick_accepted-requires c = 
+tick_accepted-requires c =
     let b = c in
     let d = b.before.before in
     let t = d.before.before in
@@ -25,7 +25,7 @@ tick_accepted-requires c =
 
 pub returns : goal.returns
 unfolding tick_of tick_with
-returns c = 
+returns c =
     let e = c.refused_place-place.ensures in
     let n : eqb (refused_place c.args.a) 0 ≡ false = rw e at (some-eqb _ c.if-place-eq0.false) in
     rw n (c.refused.ensures ∙ ap (λ (p : ℕ). refused_of (NumberOutOfRange p) c.args.f) e)

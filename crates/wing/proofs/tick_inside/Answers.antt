@@ -7,7 +7,7 @@ use Rattle.wing.proofs.tick_inside.Goals as goal
 
 pub returns-then-wind_usable : goal.returns-then-wind_usable
 unfolding tick_of tick_with accepted_tick of_bits round
-returns-then-wind_usable c = 
+returns-then-wind_usable c =
     let outer = c in
     let pre = outer.requires in
     simp (
@@ -21,7 +21,7 @@ returns-then-wind_usable c =
 
 pub returns-then-inside : goal.returns-then-inside
 unfolding tick_of tick_with accepted_tick of_bits round
-returns-then-inside c = 
+returns-then-inside c =
     let outer = c in
     let pre = outer.requires in
     simp (
@@ -34,6 +34,6 @@ returns-then-inside c =
 
 pub returns : goal.returns
 unfolding tick_of tick_with accepted_tick of_bits round
-returns c = 
+returns c =
     let pre = c.requires in
     simp (c.refused-2.ensures, sym c.inside.ensures ∙ c.if-inside.false, pre.fact_1, pre.fact_2)

@@ -6,7 +6,7 @@ use Rattle.wing.proofs.with_thrust.Goals as goal
 
 pub returns : goal.returns
 unfolding with_thrust of_bits
-returns c = 
+returns c =
     let s = c in simp (
       c.add-torque_nm.ensures,
       c.add.ensures,

@@ -1,5 +1,4 @@
 -- `airframe::Airframe::from_numbers` meets its contract. Assumes nothing.
-use borrow.Author.Rules.{rules}
 use Rattle.airframe.specs.FromNumbers.{airframe_of}
 use Rattle.airframe.proofs.Airframe.from_numbers.Goals as goal
 

@@ -1,11 +1,10 @@
 -- `airframe::Airframe::lowest_place` meets its contract. Assumes nothing.
 use Rattle.airframe.specs.Acceptance.{lowest_place}
-use borrow.Author.Rules.{rules}
 use Rattle.airframe.proofs.Airframe.lowest_place.Goals as goal
 
 pub returns : goal.returns
 unfolding lowest_place
-returns c = 
+returns c =
     simp (
       c.first_refused.ensures,
       c.lift_torques_outside-lift_torque.ensures,

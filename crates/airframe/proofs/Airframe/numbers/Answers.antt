@@ -1,6 +1,5 @@
 -- `airframe::Airframe::numbers` meets its contract. Assumes nothing.
 use Rattle.airframe.specs.Numbers.{base_numbers, coefficient_numbers, lift_numbers, numbers_of, wash_numbers}
-use borrow.Author.Rules.{rules}
 use Rattle.airframe.proofs.Airframe.numbers.Goals as goal
 
 pub returns : goal.returns

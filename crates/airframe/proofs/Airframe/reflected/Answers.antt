@@ -1,6 +1,5 @@
 -- `airframe::Airframe::reflected` meets its contract. Assumes nothing.
 use Rattle.airframe.specs.Reflection.{reflect_airframe}
-use borrow.Author.Rules.{rules}
 use Rattle.airframe.proofs.Airframe.reflected.Goals as goal
 
 pub returns : goal.returns

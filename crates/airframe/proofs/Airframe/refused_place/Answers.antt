@@ -1,5 +1,4 @@
 -- `airframe::Airframe::refused_place` meets its contract. Assumes nothing.
-use borrow.Author.Rules.{rules}
 use Rattle.airframe.specs.Acceptance.{refused_place}
 use Rattle.airframe.proofs.Airframe.refused_place.Goals as goal
 

@@ -1,12 +1,11 @@
 -- `airframe::Airframe::zero` meets its contract. Assumes nothing.
 use lib.Ieee.{of_bits}
-use borrow.Author.Rules.{rules}
 use Rattle.airframe.specs.FromNumbers.{zero_airframe}
 use Rattle.airframe.proofs.Airframe.zero.Goals as goal
 
 pub returns : goal.returns
 unfolding zero_airframe of_bits
-returns c = 
+returns c =
     let z = c in
     let r = z.before in
     let m = r.before.before in

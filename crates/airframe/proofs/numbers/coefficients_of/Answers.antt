@@ -1,6 +1,5 @@
 -- `airframe::numbers::coefficients_of` meets its contract. Assumes nothing.
 use mathlib.Core.Path.{refl}
-use borrow.Author.Rules.{rules}
 use Rattle.airframe.specs.FromNumbers.{coefficients_of}
 use Rattle.airframe.proofs.numbers.coefficients_of.Goals as goal
 

@@ -1,7 +1,6 @@
 -- `airframe::numbers::lift_layout_of` meets its contract. Assumes nothing.
 use mathlib.Core.Path.{refl}
 use Rattle.airframe.specs.FromNumbers.{lift_layout_of}
-use borrow.Author.Rules.{rules}
 use Rattle.airframe.proofs.numbers.lift_layout_of.Goals as goal
 
 pub returns : goal.returns

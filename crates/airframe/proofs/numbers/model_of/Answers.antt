@@ -1,5 +1,4 @@
 -- `airframe::numbers::model_of` meets its contract. Assumes nothing.
-use borrow.Author.Rules.{rules}
 use Rattle.airframe.specs.FromNumbers.{model_of}
 use Rattle.airframe.proofs.numbers.model_of.Goals as goal
 

@@ -1,6 +1,5 @@
 -- `airframe::numbers::motor_layout_of` meets its contract. Assumes nothing.
 use mathlib.Core.Path.{refl}
-use borrow.Author.Rules.{rules}
 use Rattle.airframe.specs.FromNumbers.{motor_layout_of}
 use Rattle.airframe.proofs.numbers.motor_layout_of.Goals as goal
 

@@ -1,6 +1,5 @@
 -- `airframe::numbers::wash_from` meets its contract. Assumes nothing.
 use mathlib.Core.Path.{refl}
-use borrow.Author.Rules.{rules}
 use Rattle.airframe.specs.FromNumbers.{wash_from}
 use Rattle.airframe.proofs.numbers.wash_from.Goals as goal
 

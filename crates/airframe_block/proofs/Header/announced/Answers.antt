@@ -14,7 +14,7 @@ returns-then-self-gt1 c = simp (lt-ltb _ _ c.if-self-gt1.true, eq-eqb _ _ c.if-s
 
 pub returns-then-self-ne0 : goal.returns-then-self-ne0
 unfolding announced_by
-returns-then-self-ne0 c = 
+returns-then-self-ne0 c =
     simp (
       ne_eqb _ _ c.if-self-ne0.true,
       le-ltb _ _ c.if-self-gt1.false,
@@ -23,7 +23,7 @@ returns-then-self-ne0 c =
 
 pub returns-then-self-gt-MOST_ROWS : goal.returns-then-self-gt-MOST_ROWS
 unfolding announced_by
-returns-then-self-gt-MOST_ROWS c = 
+returns-then-self-gt-MOST_ROWS c =
     simp (
       lt-ltb _ _ c.if-self-gt-MOST_ROWS.true,
       eq-eqb _ _ c.if-self-ne0.false,
@@ -33,7 +33,7 @@ returns-then-self-gt-MOST_ROWS c =
 
 pub returns : goal.returns
 unfolding announced_by
-returns c = 
+returns c =
     simp (
       c.bytes-n.ensures,
       le-ltb _ _ c.if-self-gt-MOST_ROWS.false,

@@ -17,13 +17,13 @@ pub segment_bytes-lift-requires : goal.segment_bytes-lift-requires
 segment_bytes-lift-requires c = few c.lift.result (lift-holds c.lift.result _ c.lift.ensures)
 
 pub overflow_add-result : goal.overflow_add-result
-overflow_add-result c = 
+overflow_add-result c =
     let b = c in
     let base = b.segment_bytes-base.ensures.fact_1 ∙ base-bytes _ b.base.ensures in
     record { fits = omega (arith, base) }
 
 pub overflow_add-result-2 : goal.overflow_add-result-2
-overflow_add-result-2 c = 
+overflow_add-result-2 c =
     let w = c in
     let b = w.before.before in
     let base = b.segment_bytes-base.ensures.fact_1 ∙ base-bytes _ b.base.ensures in
@@ -31,7 +31,7 @@ overflow_add-result-2 c =
     record { fits = omega (arith, base, wash, w.segment_bytes-wash.ensures.fact_1) }
 
 pub overflow_add-result-3 : goal.overflow_add-result-3
-overflow_add-result-3 c = 
+overflow_add-result-3 c =
     let w = c in
     let b = w.before.before in
     let base = b.segment_bytes-base.ensures.fact_1 ∙ base-bytes _ b.base.ensures in
@@ -40,7 +40,7 @@ overflow_add-result-3 c =
     record { fits = omega (arith, base, wash, lift, w.segment_bytes-wash.ensures.fact_1, c.segment_bytes-lift.ensures.fact_1) }
 
 pub returns : goal.returns
-returns c = 
+returns c =
     let w = c in
     let b = w.before.before in
     let base = b.segment_bytes-base.ensures.fact_1 ∙ ap segment_bytes b.base.ensures in

@@ -1,5 +1,4 @@
 -- `answers::Answer::is_done` meets its contract. Assumes nothing.
-use borrow.Author.Rules.{rules}
 use Rattle.answers.proofs.Answer.is_done.Goals as goal
 
 pub returns : goal.returns

@@ -1,5 +1,4 @@
 -- `body::Body::air_relative_velocity_ned_mps` meets its contract. Assumes nothing.
-use borrow.Author.Rules.{rules}
 use Rattle.body.specs.Motion.{air_velocity}
 use Rattle.body.proofs.Body.air_relative_velocity_ned_mps.Goals as goal
 

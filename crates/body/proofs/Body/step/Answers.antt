@@ -1,11 +1,10 @@
 -- `body::Body::step` meets its contract. Assumes nothing.
-use borrow.Author.Rules.{rules}
 use Rattle.body.specs.Motion.{next_position, next_velocity, step_of}
 use Rattle.body.proofs.Body.step.Goals as goal
 
 pub returns : goal.returns
 unfolding step_of next_velocity next_position
-returns c = 
+returns c =
     simp (
       c.next_attitude.ensures,
       c.next_rates-angular_velocity_radps.ensures,

@@ -1,6 +1,5 @@
 -- `body::Wrench::add` meets its contract. Assumes nothing.
 use Rattle.body.specs.Motion.{add_wrench}
-use borrow.Author.Rules.{rules}
 use Rattle.body.proofs.Wrench.add.Goals as goal
 
 pub returns : goal.returns

@@ -1,5 +1,4 @@
 -- `fixed_wing::ThrustFalloff::falloff_share` meets its contract. Assumes nothing.
-use borrow.Author.Rules.{rules}
 use Rattle.fixed_wing.specs.Falloff.{falloff_share, linear_share}
 use Rattle.fixed_wing.proofs.ThrustFalloff.falloff_share.Goals as goal
 

@@ -1,12 +1,11 @@
 -- `flight::Flight::is_inside` meets its contract. Assumes nothing.
 use lib.Ieee.{neg, of_bits, round}
 use Rattle.flight.proofs.Inside.{inside-all}
-use borrow.Author.Rules.{rules}
 use Rattle.flight.proofs.Flight.is_inside.Goals as goal
 
 pub returns : goal.returns
 unfolding of_bits round neg
-returns c = 
+returns c =
     let s = c in
     let b = s.before.before.before.before in
     simp (

@@ -1,12 +1,11 @@
 -- `flight::Flight::outside` meets its contract. Assumes nothing.
 use lib.Ieee.{neg, of_bits, round}
 use Rattle.flight.specs.Envelope.{outside_of}
-use borrow.Author.Rules.{rules}
 use Rattle.flight.proofs.Flight.outside.Goals as goal
 
 pub returns : goal.returns
 unfolding outside_of of_bits round neg
-returns c = 
+returns c =
     let p = c in
     let b = p.before.before.before.before.before.before.before.before in
     simp (

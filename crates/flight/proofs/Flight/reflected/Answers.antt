@@ -1,5 +1,4 @@
 -- `flight::Flight::reflected` meets its contract. Assumes nothing.
-use borrow.Author.Rules.{rules}
 use Rattle.flight.specs.Reflection.{reflect_flight}
 use Rattle.flight.proofs.Flight.reflected.Goals as goal
 

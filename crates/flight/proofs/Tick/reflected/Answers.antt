@@ -1,5 +1,4 @@
 -- `flight::Tick::reflected` meets its contract. Assumes nothing.
-use borrow.Author.Rules.{rules}
 use Rattle.flight.specs.Reflection.{reflect_tick}
 use Rattle.flight.proofs.Tick.reflected.Goals as goal
 

@@ -1,6 +1,5 @@
 -- `lent_rows::Mix::put` meets its contract. Assumes nothing.
 use Rattle.lent_rows.specs.Mixing.{put_row}
-use borrow.Author.Rules.{rules}
 use Rattle.lent_rows.proofs.Mix.put.Goals as goal
 
 pub returns : goal.returns

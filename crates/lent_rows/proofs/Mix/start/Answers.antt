@@ -1,6 +1,5 @@
 -- `lent_rows::Mix::start` meets its contract. Assumes nothing.
 use Rattle.lent_rows.specs.Mixing.{start_of}
-use borrow.Author.Rules.{rules}
 use Rattle.lent_rows.proofs.Mix.start.Goals as goal
 
 pub returns : goal.returns

@@ -1,6 +1,5 @@
 -- `lent_rows::Mix::surfaces` meets its contract. Assumes nothing.
 use lib.Ieee.{of_bits}
-use borrow.Author.Rules.{rules}
 use Rattle.lent_rows.specs.Mixing.{surfaces_in}
 use Rattle.lent_rows.proofs.Mix.surfaces.Goals as goal
 

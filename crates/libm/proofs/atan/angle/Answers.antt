@@ -1,6 +1,5 @@
 -- `libm::atan::angle` meets its contract. Assumes nothing.
 use lib.Ieee.{of_bits, round}
-use borrow.Author.Rules.{rules}
 use Rattle.libm.specs.Atan.{angle_of}
 use Rattle.libm.proofs.atan.angle.Goals as goal
 

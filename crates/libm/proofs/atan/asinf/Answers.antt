@@ -1,6 +1,5 @@
 -- `libm::atan::asinf` meets its contract. Assumes nothing.
 use lib.Ieee.{of_bits}
-use borrow.Author.Rules.{rules}
 use Rattle.libm.specs.Atan.{asin_of}
 use Rattle.libm.proofs.atan.asinf.Goals as goal
 

@@ -1,6 +1,5 @@
 -- `libm::atan::atan2f` meets its contract. Assumes nothing.
 use lib.Ieee.{of_bits}
-use borrow.Author.Rules.{rules}
 use Rattle.libm.specs.Atan.{atan2_of}
 use Rattle.libm.proofs.atan.atan2f.Goals as goal
 

@@ -1,6 +1,5 @@
 -- `libm::atan::atan_near` meets its contract. Assumes nothing.
 use lib.Ieee.{of_bits, round}
-use borrow.Author.Rules.{rules}
 use Rattle.libm.specs.Atan.{atan_near}
 use Rattle.libm.proofs.atan.atan_near.Goals as goal
 

@@ -1,11 +1,10 @@
 -- `libm::atan::off_origin` meets its contract. Assumes nothing.
-use borrow.Author.Rules.{rules}
 use Rattle.libm.specs.Atan.{off_origin}
 use Rattle.libm.proofs.atan.off_origin.Goals as goal
 
 pub returns : goal.returns
 unfolding off_origin
-returns c = 
+returns c =
     simp (
       c.sided.ensures,
       c.beyond.ensures,

@@ -28,12 +28,12 @@ truncated-requires-2 c = let x = c.args.x in let s = cut-is-small (x ⊗ log2e �
 
 pub returns-then-x : goal.returns-then-x
 unfolding of_bits
-returns-then-x c = 
+returns-then-x c =
     let x = c.args.x in read_back x (x ⊗ log2e ⊕ half) c.truncated.result c.truncated.ensures.fact_1
     (nearest-up x c.requires c.if-x.true)
 
 pub returns : goal.returns
 unfolding of_bits
-returns c = 
+returns c =
     let x = c.args.x in read_back x (x ⊗ log2e ⊖ half) c.truncated-2.result c.truncated-2.ensures.fact_1
     (nearest-down x c.requires c.if-x.false)

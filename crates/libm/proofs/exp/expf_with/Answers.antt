@@ -3,7 +3,6 @@ use lib.Dec.{T}
 use lib.Ieee.{nan_bits, neg, of_bits, round}
 use lib.IntN.{ℤ}
 use mathlib.Core.Path.{◌∙◌, ap, subst, sym}
-use borrow.Author.Rules.{rules}
 use lib.Ieee.Compare.{differs_from_itself}
 use mir.Syntax.{w64}
 use mir.ValLaws.{to_z-of_z}
@@ -33,7 +32,7 @@ binary_exponent-k-requires c = tested c.args.x c.if-x.false c.if-x-2.false c.if-
 
 pub returns : goal.returns
 unfolding exp_of core of_bits neg round
-returns c = 
+returns c =
     let e = c in
     let t = c.binary_exponent-k in
     rw (e.if-x.false, e.if-x-2.false, e.if-x-3.false, c.power_of_two.ensures, c.poly.ensures, c.rest.ensures)

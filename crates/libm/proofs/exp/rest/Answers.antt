@@ -10,7 +10,7 @@ use Rattle.libm.specs.Exp.{rest}
 use Rattle.libm.proofs.exp.rest.Goals as goal
 
 pub int_to_float-n : goal.int_to_float-n
-int_to_float-n c = 
+int_to_float-n c =
     subst (λ (z : ℤ). T (in_float binary32 z)) (sym (to_z-of_z w64 c.args.k c.ranges.k))
     (exponent-in-float c.args.k c.requires)
 

@@ -1,6 +1,6 @@
 -- `libm::log::logf` meets its contract: a positive finite value by its pattern, and infinity, zero, the rest each by its own law. Assumes nothing.
 use lib.Dec.{T}
-use lib.Ieee.{binary32, fits, nan_bits, of_bits}
+use lib.Ieee.{binary32, nan_bits, of_bits}
 use lib.Ieee.Bits.{of_bits-to_bits}
 use mathlib.Core.Path.{◌∙◌, ap, subst, sym}
 use Rattle.float.proofs.Patterns.{zero_by_zero}

@@ -4,7 +4,6 @@ use lib.Ieee.{binary32, minus, of_bits}
 use lib.IntN.{◌-ℤ◌, pos, ℤ}
 use mathlib.Core.Path.{◌∙◌, ◌≡◌, ap, subst, sym}
 use native.Mathlib.Omega.{arith}
-use borrow.Author.Rules.{rules}
 use mir.Syntax.{w64}
 use mir.Val.{SFits, of_z, to_z}
 use mir.ValLaws.{to_z-of_z, to_z_pos}
@@ -27,7 +26,7 @@ pub overflow_sub-result : goal.overflow_sub-result
 overflow_sub-result c = subst (λ (z : ℤ). SFits w64 z) (sym (field c)) (binary-fits _ (split_pattern c.args.b c.requires.fact_1 c.requires.fact_2).in-range)
 
 pub returns : goal.returns
-returns c = 
+returns c =
     let b = c.args.b in
     let s = split_pattern b c.requires.fact_1 c.requires.fact_2 in
     subst (λ (z : ℤ). SplitOf (of_bits binary32 b) (of_bits binary32 ((b + 1065353216 - 1060439283) % 8388608 + 1060439283)) z)

@@ -8,7 +8,6 @@ use lib.Ieee.Fits.{of_int-fits}
 use lib.IntN.{◌-ℤ◌, pos, ℤ}
 use mathlib.Core.Path.{◌∙◌, ◌≡◌, ap, subst, sym}
 use native.Mathlib.Omega.{arith}
-use borrow.Author.Rules.{rules}
 use mir.Syntax.{w64}
 use mir.Val.{SFits, of_z, to_z}
 use mir.ValLaws.{to_z-of_z}
@@ -72,7 +71,7 @@ returns-then-b-lt8388608 c =
     ∙ ln-below b c.requires.fact_1 c.if-b-lt8388608.true r.mantissa r.exponent (whole_parts b r.mantissa r.exponent w)
 
 pub returns : goal.returns
-returns c = 
+returns c =
     let k = c in
     let s = c in
     let r = k.mantissa_and_exponent-p-2.result in

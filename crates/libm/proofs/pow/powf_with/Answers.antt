@@ -2,7 +2,6 @@
 use lib.Ieee.{of_bits}
 use mathlib.Core.Bool.{false, true}
 use mathlib.Core.Path.{◌∙◌, ◌≡◌, sym}
-use borrow.Author.Rules.{rules}
 use Rattle.float.proofs.Patterns.{zero_by_zero}
 use Rattle.float.specs.Interval.{inside}
 use Rattle.float.specs.Notation.{zero, one}
@@ -15,7 +14,7 @@ returns-then-v c = rw c.if-v.true
 
 pub returns-then-inside : goal.returns-then-inside
 unfolding pow_of of_bits
-returns-then-inside c = 
+returns-then-inside c =
     let k = c in
     let t = k in
     let i : inside zero one t.args.v ≡ true = sym t.inside.ensures ∙ t.if-inside.true in
@@ -23,6 +22,6 @@ returns-then-inside c =
 
 pub returns : goal.returns
 unfolding pow_of of_bits
-returns c = 
+returns c =
     let i : inside zero one c.args.v ≡ false = sym c.inside.ensures ∙ c.if-inside.false in
     rw (c.if-v.false, i) zero_by_zero

@@ -45,7 +45,7 @@ pub bounds-powers-k : goal.bounds-powers-k
 bounds-powers-k c = subst (λ (z : ℤ). nat_abs z < power_count) (sym (again c.args.k c.ranges.k c.requires.fact_1)) (at c.args.k c.ranges.k c.requires.fact_1).below
 
 pub returns : goal.returns
-returns c = 
+returns c =
     let b = c in
     ap (λ (z : ℤ). get_or b.args.powers.now (nat_abs z) nan) (again b.args.k b.ranges.k b.requires.fact_1)
     ∙ ap (λ (t : List Float). get_or t (at b.args.k b.ranges.k b.requires.fact_1).i nan) b.requires.fact_2

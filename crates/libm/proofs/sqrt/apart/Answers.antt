@@ -1,6 +1,6 @@
 -- `libm::sqrt::apart` meets its contract: the loop doubles m and lowers k, so m * 2 ^ k stays what it was, until m has all 24 digits. Assumes nothing.
-use Prim.Native.Nat.{◌*◌, ◌<◌, ◌^◌, ◌≤◌}
-use mathlib.Core.Path.{◌∙◌, ◌≡◌, refl}
+use Prim.Native.Nat.{◌≤◌}
+use mathlib.Core.Path.{◌∙◌, refl}
 use native.Mathlib.Omega.{arith}
 use Rattle.libm.proofs.RootValues.{doubled, normal-root, some_left, subnormal-root}
 use Rattle.libm.proofs.sqrt.apart.Goals as goal
@@ -48,7 +48,7 @@ pub overflow_add-result-2 : goal.overflow_add-result-2
 overflow_add-result-2 c = omega arith
 
 pub returns : goal.returns
-returns c = 
+returns c =
     let b = c.args.b in
     let l = c.loop-m in
     record {

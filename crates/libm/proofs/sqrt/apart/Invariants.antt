@@ -1,8 +1,6 @@
 -- `libm::sqrt::apart` meets its contract: the loop doubles m and lowers k, so m * 2 ^ k stays what it was, until m has all 24 digits. Assumes nothing.
 use Prim.Native.Nat.{◌*◌, ◌<◌, ◌^◌, ◌≤◌}
-use mathlib.Core.Path.{◌∙◌, ◌≡◌, refl}
-use native.Mathlib.Omega.{arith}
-use Rattle.libm.proofs.RootValues.{doubled, normal-root, some_left, subnormal-root}
+use mathlib.Core.Path.{◌≡◌}
 use Rattle.libm.proofs.sqrt.apart.Given as goal
 
 abbrev pub invariant-loop-m : goal.invariant-loop-m

@@ -1,6 +1,5 @@
 -- `libm::sqrt::guess` is proved safe: no pattern that it makes is a NaN's, and a NaN at the end is caught. Assumes nothing.
 use native.Mathlib.Omega.{arith}
-use borrow.Author.Rules.{rules}
 use Rattle.float.proofs.Patterns.{no_nan, not-nan-pattern64}
 use Rattle.libm.proofs.sqrt.guess.Goals as goal
 

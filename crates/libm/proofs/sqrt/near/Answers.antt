@@ -1,7 +1,6 @@
 -- `libm::sqrt::near` meets its contract: the guess is handed on only where the two tests show that it is nearest. Assumes nothing.
 use Prim.Native.Nat.{◌%◌, ◌+◌}
 use native.Mathlib.Omega.{arith}
-use borrow.Author.Rules.{rules}
 use Rattle.libm.proofs.Squares.{square_le}
 use Rattle.libm.proofs.sqrt.near.Goals as goal
 

@@ -1,6 +1,5 @@
 -- `libm::sqrt::positive` meets its contract. Assumes nothing.
 use mathlib.Core.Path.{◌∙◌, sym}
-use borrow.Author.Rules.{rules}
 use Rattle.libm.proofs.sqrt.positive.Goals as goal
 
 pub returns : goal.returns

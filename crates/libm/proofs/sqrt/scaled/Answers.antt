@@ -1,10 +1,8 @@
 -- `libm::sqrt::scaled` meets its contract: s with j / 2 pairs of zeros after it is the number, and its root is near's with j / 2 zeros. Assumes nothing.
 use Prim.Native.Nat.{◌*◌, ◌+◌, ◌/◌, ◌^◌, ◌≤◌, ℕ}
 use lib.Ieee.{binary32}
-use mathlib.Core.Logic.{⊎_elim}
 use mathlib.Core.Path.{◌∙◌, ◌≡◌, ap, sym}
 use native.Mathlib.Omega.{arith}
-use borrow.Author.Rules.{rules}
 use Rattle.float.proofs.Patterns.{not-nan-pattern}
 use Rattle.libm.proofs.RootValues.{even-part, odd_part, units-pattern}
 use Rattle.libm.proofs.Roots.{scaled-root}
@@ -22,12 +20,12 @@ record Fact (s m j : ℕ) : Type 0 where
 fact : (c : goal.Joined-j-eq0) → Fact c.if-j-eq0.s c.args.m c.args.j
 fact c =
     elim c.if-j-eq0.branch [
-      then-j-eq0 w ↦ record {
+      | then-j-eq0 w ↦ record {
         lo = omega arith;
         hi = omega arith;
         is = ap (λ (x : ℕ). x * 4 ^ (c.args.j / 2)) w.s-is ∙ even-part c.args.m c.args.j w.if-j-eq0.true;
       }
-    | else-j-eq0 w ↦ record {
+      | else-j-eq0 w ↦ record {
         lo = omega arith;
         hi = omega arith;
         is = ap (λ (x : ℕ). x * 4 ^ (c.args.j / 2)) w.s-is ∙ odd_part c.args.m c.args.j w.if-j-eq0.false;
@@ -44,7 +42,7 @@ pub float_from_bits-result : goal.float_from_bits-result
 float_from_bits-result c = not-nan-pattern (c.args.j / 2 * 8388608 + c.near-q.result) (omega arith)
 
 pub returns : goal.returns
-returns c = 
+returns c =
     let s = c.if-j-eq0.s in
     let h = c.args.j / 2 in
     let q = c.near-q.result in

@@ -1,5 +1,5 @@
 -- `libm::sqrt::search` meets its contract: the root lies between lo and hi, which close in until they are neighbours. Assumes nothing.
-use Prim.Native.Nat.{◌*◌, ◌+◌, ◌-◌, ◌/◌, ◌<◌, ◌≤◌, ℕ}
+use Prim.Native.Nat.{◌*◌, ◌+◌, ◌-◌, ◌/◌, ℕ}
 use mathlib.Core.Path.{◌∙◌, ◌≡◌, ap}
 use native.Mathlib.Omega.{arith}
 use Rattle.libm.proofs.Squares.{square_le, square-next}
@@ -36,7 +36,7 @@ pub loop-hi-preserved : goal.loop-hi-preserved
 loop-hi-preserved c = omega arith
 
 pub returns : goal.returns
-returns c = 
+returns c =
     let lo = c.loop-hi.lo in
     let hi = c.loop-hi.hi in
     let e : hi ≡ lo + 1 = omega arith in

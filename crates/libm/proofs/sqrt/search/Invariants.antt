@@ -1,8 +1,5 @@
 -- `libm::sqrt::search` meets its contract: the root lies between lo and hi, which close in until they are neighbours. Assumes nothing.
-use Prim.Native.Nat.{◌*◌, ◌+◌, ◌-◌, ◌/◌, ◌<◌, ◌≤◌, ℕ}
-use mathlib.Core.Path.{◌∙◌, ◌≡◌, ap}
-use native.Mathlib.Omega.{arith}
-use Rattle.libm.proofs.Squares.{square_le, square-next}
+use Prim.Native.Nat.{◌*◌, ◌+◌, ◌-◌, ◌<◌, ◌≤◌}
 use Rattle.libm.proofs.sqrt.search.Given as goal
 
 abbrev pub invariant-loop-hi : goal.invariant-loop-hi

@@ -1,6 +1,6 @@
 -- `libm::sqrtf` meets its contract: a positive finite value by its pattern, and infinity, zero, the rest each by its own law. Assumes nothing.
 use lib.Dec.{T}
-use lib.Ieee.{binary32, fits}
+use lib.Ieee.{binary32}
 use lib.Ieee.Bits.{of_bits-to_bits}
 use mathlib.Core.Path.{◌∙◌, ap, subst, sym}
 use Rattle.float.proofs.Patterns.{zero_by_zero}
@@ -21,7 +21,7 @@ pub positive-requires-clause-fact_2 : goal.positive-requires-clause-fact_2
 positive-requires-clause-fact_2 c = c.if-b-lt2139095040.true
 
 pub returns-then-b-lt2139095040 : goal.returns-then-b-lt2139095040
-returns-then-b-lt2139095040 c = 
+returns-then-b-lt2139095040 c =
     c.positive.ensures ∙ ap (sqrt_of binary32)
     (of_bits-to_bits binary32 c.args.x (subst T (sym c.well_formed.0.1) tt))
 

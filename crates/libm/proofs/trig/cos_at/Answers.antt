@@ -1,6 +1,5 @@
 -- `libm::trig::cos_at` meets its contract: it goes through the definition's tests in their order. Assumes nothing.
 use lib.Ieee.{neg, of_bits, round}
-use borrow.Author.Rules.{rules}
 use Rattle.libm.specs.Promises.{by_quarters, cos_by}
 use Rattle.libm.proofs.trig.cos_at.Goals as goal
 
@@ -18,7 +17,7 @@ returns-then-q-3 c = simp (c.sin_near-then-q-3.ensures, c.if-q-3.true, c.if-q-2.
 
 pub returns-then-q-4 : goal.returns-then-q-4
 unfolding cos_by by_quarters neg of_bits round
-returns-then-q-4 c = 
+returns-then-q-4 c =
     simp (
       c.cos_near-then-q-4.ensures,
       c.if-q-4.true,
@@ -29,7 +28,7 @@ returns-then-q-4 c =
 
 pub returns-then-q-5 : goal.returns-then-q-5
 unfolding cos_by by_quarters neg of_bits round
-returns-then-q-5 c = 
+returns-then-q-5 c =
     simp (
       c.cos_near-then-q-5.ensures,
       c.if-q-5.true,
@@ -41,7 +40,7 @@ returns-then-q-5 c =
 
 pub returns : goal.returns
 unfolding cos_by by_quarters neg of_bits round
-returns c = 
+returns c =
     simp (
       c.sin_near-2.ensures,
       c.if-q-5.false,

@@ -1,13 +1,12 @@
 -- `libm::trig::cosf` meets its contract: within size 4 the quarter turns as a float are the definition's. Assumes nothing.
 use lib.Ieee.{div, neg, of_bits, round}
-use borrow.Author.Rules.{rules}
 use Rattle.libm.proofs.Quarters.{cos-held}
 use Rattle.libm.specs.Trig.{cos_of}
 use Rattle.libm.proofs.trig.cosf.Goals as goal
 
 pub returns-then-x-2 : goal.returns-then-x-2
 unfolding of_bits neg round
-returns-then-x-2 c = 
+returns-then-x-2 c =
     let q = c in
     simp (c.cos_at.ensures, c.rest_of.ensures, q.quarters-q.ensures, cos-held _ q.if-x.true q.if-x-2.true)
 

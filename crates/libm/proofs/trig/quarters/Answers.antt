@@ -1,6 +1,5 @@
 -- `libm::trig::quarters` meets its contract. Assumes nothing.
 use lib.Ieee.{of_bits, round}
-use borrow.Author.Rules.{rules}
 use Rattle.libm.specs.Promises.{whole_quarters}
 use Rattle.libm.proofs.trig.quarters.Goals as goal
 

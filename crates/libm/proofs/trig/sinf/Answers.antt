@@ -1,13 +1,12 @@
 -- `libm::trig::sinf` meets its contract: within size 4 the quarter turns as a float are the definition's. Assumes nothing.
 use lib.Ieee.{div, neg, of_bits, round}
-use borrow.Author.Rules.{rules}
 use Rattle.libm.proofs.Quarters.{sin-held}
 use Rattle.libm.specs.Trig.{sin_of}
 use Rattle.libm.proofs.trig.sinf.Goals as goal
 
 pub returns-then-x-2 : goal.returns-then-x-2
 unfolding of_bits neg round
-returns-then-x-2 c = 
+returns-then-x-2 c =
     let q = c in
     simp (c.sin_at.ensures, c.rest_of.ensures, q.quarters-q.ensures, sin-held _ q.if-x.true q.if-x-2.true)
 

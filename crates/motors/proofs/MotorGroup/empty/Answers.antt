@@ -1,6 +1,5 @@
 -- `motors::MotorGroup::empty` meets its contract. Assumes nothing.
 use lib.Ieee.{of_bits}
-use borrow.Author.Rules.{rules}
 use Rattle.motors.specs.Motor.{empty_group}
 use Rattle.motors.proofs.MotorGroup.empty.Goals as goal
 

@@ -1,6 +1,5 @@
 -- `motors::MotorGroup::new` meets its contract. Assumes nothing.
-use Prim.Native.Nat.{◌-◌, ◌≤◌}
-use mathlib.Core.Path.{◌∙◌, ◌≡◌, ap, refl}
+use mathlib.Core.Path.{◌∙◌, ap, refl}
 use native.Mathlib.Nat.{le_antisymm}
 use borrow.Author.Rules.{rules}
 use Rattle.mixers.proofs.Putting.{put-more}
@@ -14,13 +13,13 @@ unfolding put_to
 loop-i-init c = (search rules, search rules, refl)
 
 pub loop-i-preserved : goal.loop-i-preserved
-loop-i-preserved c = 
+loop-i-preserved c =
     let s = c in
     (search rules, search rules, put-more _ _ _ s.loop-i.i _ _ s.loop-i.invariant.2 c.put-group.ensures)
 
 pub returns : goal.returns
 unfolding group_of
-returns c = 
+returns c =
     let s = c in
     let a = s.args in
     let n = le_antisymm s.loop-i.invariant.0 c.loop-i-test.false ∙ s.live-count.ensures.value in

@@ -1,12 +1,8 @@
 -- `motors::MotorGroup::new` meets its contract. Assumes nothing.
 use Prim.Native.Nat.{◌-◌, ◌≤◌}
-use mathlib.Core.Path.{◌∙◌, ◌≡◌, ap, refl}
-use native.Mathlib.Nat.{le_antisymm}
-use borrow.Author.Rules.{rules}
-use Rattle.mixers.proofs.Putting.{put-more}
-use Rattle.mixers.specs.Rows.{live_of, put_to}
-use Rattle.motors.specs.Motor.{group_of, put_motor_row}
-use Rattle.motors.specs.declared.MotorGroup.{MotorGroup}
+use mathlib.Core.Path.{◌≡◌}
+use Rattle.mixers.specs.Rows.{put_to}
+use Rattle.motors.specs.Motor.{put_motor_row}
 use Rattle.motors.proofs.MotorGroup.new.Given as goal
 
 abbrev pub invariant-loop-i : goal.invariant-loop-i

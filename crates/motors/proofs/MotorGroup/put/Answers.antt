@@ -1,6 +1,5 @@
 -- `motors::MotorGroup::put` meets its contract. Assumes nothing.
 use Rattle.motors.specs.Motor.{put_motor_at, put_motor_row}
-use borrow.Author.Rules.{rules}
 use Rattle.motors.proofs.MotorGroup.put.Goals as goal
 
 pub returns-in-Motor : goal.returns-in-Motor

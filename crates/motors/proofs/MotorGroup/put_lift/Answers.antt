@@ -1,6 +1,5 @@
 -- `motors::MotorGroup::put_lift` meets its contract. Assumes nothing.
 use Rattle.motors.specs.Motor.{put_lift_at, put_lift_row}
-use borrow.Author.Rules.{rules}
 use Rattle.motors.proofs.MotorGroup.put_lift.Goals as goal
 
 pub returns-in-Motor : goal.returns-in-Motor

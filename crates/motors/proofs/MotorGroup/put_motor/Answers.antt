@@ -1,5 +1,4 @@
 -- `motors::MotorGroup::put_motor` meets its contract. Assumes nothing.
-use borrow.Author.Rules.{rules}
 use borrow.Author.Tests.{lt-ltb, le-ltb}
 use Rattle.motors.specs.Motor.{put_motor}
 use Rattle.motors.proofs.MotorGroup.put_motor.Goals as goal

@@ -1,5 +1,4 @@
 -- `motors::MotorGroup::reflected` meets its contract. Assumes nothing.
-use borrow.Author.Rules.{rules}
 use Rattle.motors.specs.Reflection.{reflect_group}
 use Rattle.motors.proofs.MotorGroup.reflected.Goals as goal
 

@@ -1,6 +1,5 @@
 -- `motors::MotorLayout::motor_thrust_n` meets its contract. Assumes nothing.
 use lib.Ieee.{of_bits}
-use borrow.Author.Rules.{rules}
 use Rattle.motors.specs.Motor.{thrust_of}
 use Rattle.motors.proofs.MotorLayout.motor_thrust_n.Goals as goal
 

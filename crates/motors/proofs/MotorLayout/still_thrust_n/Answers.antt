@@ -1,7 +1,6 @@
 -- `motors::MotorLayout::still_thrust_n` meets its contract. Assumes nothing.
 use lib.Ieee.{of_bits}
 use Rattle.motors.specs.Motor.{thrust_of}
-use borrow.Author.Rules.{rules}
 use Rattle.motors.proofs.MotorLayout.still_thrust_n.Goals as goal
 
 pub returns : goal.returns

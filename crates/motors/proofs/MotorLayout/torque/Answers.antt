@@ -1,5 +1,4 @@
 -- `motors::MotorLayout::torque` meets its contract. Assumes nothing.
-use borrow.Author.Rules.{rules}
 use Rattle.motors.specs.Motor.{torque_of}
 use Rattle.motors.proofs.MotorLayout.torque.Goals as goal
 

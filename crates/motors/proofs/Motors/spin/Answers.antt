@@ -1,10 +1,9 @@
 -- `motors::Motors::spin` meets its contract. The invariant: the slots passed have spun, the others are as they were. Assumes nothing.
-use Prim.Native.Nat.{◌-◌}
 use lib.Ieee.{Float, nan}
 use mathlib.Core.Path.{◌∙◌, ap}
 use native.Mathlib.Nat.{le_refl}
 use borrow.Author.Rules.{rules}
-use Rattle.mixers.proofs.Slots.{Filled, fill_end, fill_more, fill_start}
+use Rattle.mixers.proofs.Slots.{fill_end, fill_more, fill_start}
 use Rattle.mixers.specs.Slots.{at, flag_at}
 use Rattle.motors.specs.Motor.{spin_at, spin_of, spun}
 use Rattle.motors.proofs.Motors.spin.Goals as goal
@@ -14,7 +13,7 @@ loop-i-init c = fill_start _ _ _ (search rules)
 
 pub loop-i-preserved : goal.loop-i-preserved
 unfolding spin_at
-loop-i-preserved c = 
+loop-i-preserved c =
     let s = c in
     let a = s.args in
     let i = s.loop-i.i in

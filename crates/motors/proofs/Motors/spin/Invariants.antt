@@ -1,12 +1,8 @@
 -- `motors::Motors::spin` meets its contract. The invariant: the slots passed have spun, the others are as they were. Assumes nothing.
 use Prim.Native.Nat.{◌-◌}
-use lib.Ieee.{Float, nan}
-use mathlib.Core.Path.{◌∙◌, ap}
-use native.Mathlib.Nat.{le_refl}
-use borrow.Author.Rules.{rules}
-use Rattle.mixers.proofs.Slots.{Filled, fill_end, fill_more, fill_start}
-use Rattle.mixers.specs.Slots.{at, flag_at}
-use Rattle.motors.specs.Motor.{spin_at, spin_of, spun}
+use lib.Ieee.{nan}
+use Rattle.mixers.proofs.Slots.{Filled}
+use Rattle.motors.specs.Motor.{spin_at}
 use Rattle.motors.proofs.Motors.spin.Given as goal
 
 abbrev pub invariant-loop-i : goal.invariant-loop-i

@@ -1,5 +1,4 @@
 -- `motors::Motors::wrench_with` meets its contract. Assumes nothing.
-use Prim.Native.Nat.{◌-◌, ◌≤◌}
 use lib.Ieee.{of_bits}
 use mathlib.Core.Path.{◌∙◌, ◌≡◌, ap, refl}
 use native.Mathlib.Nat.{le_antisymm}
@@ -8,7 +7,6 @@ use Rattle.mixers.proofs.Slots.{sum_more, vec-sum-more}
 use Rattle.mixers.specs.Slots.{sum_to, vec_at, vec_sum_to}
 use Rattle.vector.specs.Vector.{scale_of}
 use Rattle.motors.specs.Motor.{falloff_at, slot_thrust, slot_torque, wrench_by, wrench_with}
-use Rattle.motors.specs.declared.Motors.{Motors}
 use Rattle.motors.proofs.Motors.wrench_with.Goals as goal
 
 pub loop-i-init : goal.loop-i-init
@@ -17,7 +15,7 @@ loop-i-init c = (search rules, refl, c.zeros-torque_nm.ensures)
 
 pub loop-i-preserved : goal.loop-i-preserved
 unfolding slot_thrust slot_torque
-loop-i-preserved c = 
+loop-i-preserved c =
     let s = c in
     let a = s.args in
     let i = s.loop-i.i in
@@ -32,7 +30,7 @@ loop-i-preserved c =
 
 pub returns : goal.returns
 unfolding wrench_with wrench_by
-returns c = 
+returns c =
     let s = c in
     let e : s.loop-i.i ≡ 8 = le_antisymm s.loop-i.invariant.0 c.loop-i-test.false in
     rw (s.loop-i.invariant.1, s.loop-i.invariant.2, e)

@@ -1,6 +1,5 @@
 -- `quadplane_model::LiftRotors::reflected` meets its contract. Assumes nothing.
 use Rattle.quadplane_model.specs.Lift.{reflect_rotors}
-use borrow.Author.Rules.{rules}
 use Rattle.quadplane_model.proofs.LiftRotors.reflected.Goals as goal
 
 pub returns : goal.returns

@@ -1,10 +1,9 @@
 -- `quadplane_model::LiftRotors::spun` meets its contract. Assumes nothing.
 use borrow.Author.Rules.{rules}
-use Prim.Native.Nat.{◌-◌, ℕ}
 use lib.Ieee.{Float, nan}
 use mathlib.Core.Path.{◌∙◌, ap}
 use native.Mathlib.Nat.{le_refl}
-use Rattle.mixers.proofs.Slots.{Filled, fill_end, fill_more, fill_start}
+use Rattle.mixers.proofs.Slots.{fill_end, fill_more, fill_start}
 use Rattle.mixers.specs.Slots.{at, flag_at}
 use Rattle.motors.specs.Motor.{spin_at, spin_of, spun}
 use Rattle.quadplane_model.specs.Lift.{rotors_at, rotors_spun}
@@ -14,7 +13,7 @@ pub loop-i-init : goal.loop-i-init
 loop-i-init c = fill_start _ _ _ (search rules)
 
 pub loop-i-preserved : goal.loop-i-preserved
-loop-i-preserved c = 
+loop-i-preserved c =
     let s = c in
     let a = s.args in
     let i = s.loop-i.i in

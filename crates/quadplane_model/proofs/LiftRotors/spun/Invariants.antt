@@ -1,13 +1,9 @@
 -- `quadplane_model::LiftRotors::spun` meets its contract. Assumes nothing.
-use borrow.Author.Rules.{rules}
 use Prim.Native.Nat.{◌-◌, ℕ}
-use lib.Ieee.{Float, nan}
-use mathlib.Core.Path.{◌∙◌, ap}
-use native.Mathlib.Nat.{le_refl}
-use Rattle.mixers.proofs.Slots.{Filled, fill_end, fill_more, fill_start}
+use lib.Ieee.{nan}
+use Rattle.mixers.proofs.Slots.{Filled}
 use Rattle.mixers.specs.Slots.{at, flag_at}
-use Rattle.motors.specs.Motor.{spin_at, spin_of, spun}
-use Rattle.quadplane_model.specs.Lift.{rotors_at, rotors_spun}
+use Rattle.motors.specs.Motor.{spun}
 use Rattle.quadplane_model.proofs.LiftRotors.spun.Given as goal
 
 abbrev pub invariant-loop-i : goal.invariant-loop-i

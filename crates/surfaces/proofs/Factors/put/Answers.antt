@@ -1,6 +1,5 @@
 -- `surfaces::Factors::put` meets its contract. Assumes nothing.
 use Rattle.surfaces.specs.Surface.{put_servo_at, put_servo_row}
-use borrow.Author.Rules.{rules}
 use Rattle.surfaces.proofs.Factors.put.Goals as goal
 
 pub returns-in-Servo : goal.returns-in-Servo

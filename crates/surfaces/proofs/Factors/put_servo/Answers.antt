@@ -1,5 +1,4 @@
 -- `surfaces::Factors::put_servo` meets its contract. Assumes nothing.
-use borrow.Author.Rules.{rules}
 use borrow.Author.Tests.{lt-ltb, le-ltb}
 use Rattle.surfaces.specs.Surface.{put_servo}
 use Rattle.surfaces.proofs.Factors.put_servo.Goals as goal

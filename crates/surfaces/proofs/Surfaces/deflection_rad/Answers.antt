@@ -1,5 +1,4 @@
 -- `surfaces::Surfaces::deflection_rad` meets its contract: after i iterations the sum is that of the first i slots. Assumes nothing.
-use Prim.Native.Nat.{◌-◌, ◌≤◌}
 use mathlib.Core.Path.{◌≡◌}
 use native.Mathlib.Nat.{le_antisymm}
 use borrow.Author.Rules.{rules}
@@ -14,7 +13,7 @@ loop-i-init c = (search rules, c.zeros-unit.ensures)
 
 pub loop-i-preserved : goal.loop-i-preserved
 unfolding deflection_at
-loop-i-preserved c = 
+loop-i-preserved c =
     let s = c in (
       search rules,
       vec-sum-more _ s.loop-i.i s.loop-i.unit c.scale.result c.add-unit.result s.loop-i.invariant.1
@@ -23,7 +22,7 @@ loop-i-preserved c =
 
 pub returns : goal.returns
 unfolding deflection_rad
-returns c = 
+returns c =
     let s = c in
     let e : s.loop-i.i ≡ 8 = le_antisymm s.loop-i.invariant.0 c.loop-i-test.false in
     rw (c.component_mul.ensures, s.loop-i.invariant.1, e)

@@ -1,12 +1,11 @@
 -- `surfaces::Surfaces::move_to` meets its contract: after i iterations the first i slots are moved and the others as they were. Assumes nothing.
-use Prim.Native.Nat.{◌-◌}
 use lib.Ieee.{Float, nan, neg, of_bits}
 use mathlib.Core.Path.{◌∙◌, ap}
 use native.Mathlib.Nat.{le_refl}
 use borrow.Author.Rules.{rules}
 use Rattle.float.specs.Notation.{minus_one, zero, one}
 use Rattle.lag.specs.Lag.{approach_saturated}
-use Rattle.mixers.proofs.Slots.{Filled, fill_end, fill_more, fill_start}
+use Rattle.mixers.proofs.Slots.{fill_end, fill_more, fill_start}
 use Rattle.mixers.specs.Slots.{at}
 use Rattle.surfaces.specs.Surface.{move_at, move_to}
 use Rattle.surfaces.proofs.Surfaces.move_to.Goals as goal
@@ -16,7 +15,7 @@ loop-i-init c = fill_start _ _ _ (search rules)
 
 pub loop-i-preserved : goal.loop-i-preserved
 unfolding move_at of_bits neg
-loop-i-preserved c = 
+loop-i-preserved c =
     let s = c in
     let a = s.args in
     let i = s.loop-i.i in

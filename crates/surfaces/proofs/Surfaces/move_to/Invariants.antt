@@ -1,14 +1,8 @@
 -- `surfaces::Surfaces::move_to` meets its contract: after i iterations the first i slots are moved and the others as they were. Assumes nothing.
 use Prim.Native.Nat.{◌-◌}
-use lib.Ieee.{Float, nan, neg, of_bits}
-use mathlib.Core.Path.{◌∙◌, ap}
-use native.Mathlib.Nat.{le_refl}
-use borrow.Author.Rules.{rules}
-use Rattle.float.specs.Notation.{minus_one, zero, one}
-use Rattle.lag.specs.Lag.{approach_saturated}
-use Rattle.mixers.proofs.Slots.{Filled, fill_end, fill_more, fill_start}
-use Rattle.mixers.specs.Slots.{at}
-use Rattle.surfaces.specs.Surface.{move_at, move_to}
+use lib.Ieee.{nan}
+use Rattle.mixers.proofs.Slots.{Filled}
+use Rattle.surfaces.specs.Surface.{move_at}
 use Rattle.surfaces.proofs.Surfaces.move_to.Given as goal
 
 abbrev pub invariant-loop-i : goal.invariant-loop-i

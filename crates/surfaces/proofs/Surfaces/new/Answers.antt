@@ -1,6 +1,5 @@
 -- `surfaces::Surfaces::new` meets its contract. Assumes nothing.
 use lib.Ieee.{of_bits}
-use borrow.Author.Rules.{rules}
 use Rattle.surfaces.specs.Surface.{surfaces_of}
 use Rattle.surfaces.proofs.Surfaces.new.Goals as goal
 

@@ -1,6 +1,5 @@
 -- `tailsitter_model::PropWash::added_pa` meets its contract. Assumes nothing.
 use lib.Ieee.{of_bits}
-use borrow.Author.Rules.{rules}
 use Rattle.tailsitter_model.specs.Slipstream.{added_pa, disc_pa}
 use Rattle.tailsitter_model.proofs.PropWash.added_pa.Goals as goal
 

@@ -1,5 +1,4 @@
 -- `vector::Quaternion::about` meets its contract. Assumes nothing.
-use borrow.Author.Rules.{rules}
 use Rattle.vector.specs.Rotation.{about_axis}
 use Rattle.vector.specs.Vector.{scale_of}
 use Rattle.vector.proofs.Quaternion.about.Goals as goal

@@ -1,5 +1,4 @@
 -- `vector::Quaternion::inverse_transform_vector` meets its contract. Assumes nothing.
-use borrow.Author.Rules.{rules}
 use Rattle.vector.specs.Rotation.{inverse_rotate_of}
 use Rattle.vector.proofs.Quaternion.inverse_transform_vector.Goals as goal
 

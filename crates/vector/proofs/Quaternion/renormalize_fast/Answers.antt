@@ -1,6 +1,5 @@
 -- `vector::Quaternion::renormalize_fast` meets its contract. Assumes nothing.
 use lib.Ieee.{of_bits, round}
-use borrow.Author.Rules.{rules}
 use Rattle.vector.specs.Rotation.{renormalized}
 use Rattle.vector.proofs.Quaternion.renormalize_fast.Goals as goal
 

@@ -1,12 +1,11 @@
 -- `vector::Quaternion::rotated` meets its contract. Assumes nothing.
 use lib.Ieee.{of_bits}
-use borrow.Author.Rules.{rules}
 use Rattle.vector.specs.Rotation.{rotated, twist}
 use Rattle.vector.proofs.Quaternion.rotated.Goals as goal
 
 pub returns : goal.returns
 unfolding rotated twist of_bits
-returns c = 
+returns c =
     simp (
       c.add-2.ensures,
       c.add.ensures,

@@ -1,5 +1,4 @@
 -- `vector::Quaternion::transform_vector` meets its contract. Assumes nothing.
-use borrow.Author.Rules.{rules}
 use Rattle.vector.specs.Rotation.{rotate_of}
 use Rattle.vector.proofs.Quaternion.transform_vector.Goals as goal
 

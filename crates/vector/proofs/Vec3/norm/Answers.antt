@@ -1,5 +1,4 @@
 -- `vector::Vec3::norm` meets its contract. Assumes nothing.
-use borrow.Author.Rules.{rules}
 use Rattle.vector.specs.Vector.{norm_of}
 use Rattle.vector.proofs.Vec3.norm.Goals as goal
 
