@@ -44,7 +44,9 @@ fn has_word(rt: &HostRuntime, i: usize) -> bool {
 }
 
 // How many words the program was called with: 3 stands for more, too.
-pub fn word_count(rt: &HostRuntime) -> usize {
+pub fn word_count(rt: &HostRuntime) -> usize
+    ensures { result ≤ 3 }
+{
     for i in 0..3 {
         if !has_word(rt, i) {
             return i;
@@ -77,7 +79,10 @@ pub struct Input<R> {
 }
 
 // Nothing is read yet.
-pub fn of<R>(reader: R) -> Input<R> {
+pub fn of<R>(reader: R) -> Input<R>
+    ensures reader { result.reader ≡ reader }
+    ensures error { result.error ≡ None }
+{
     Input {
         reader,
         error: None,

@@ -1,5 +1,5 @@
 // Standard output through a page of lines, and the lines of refused reads.
-ghost use Rattle.std.specs.Prelude.{◌≡◌, ◌+◌, ◌≤◌, length};
+ghost use Rattle.std.specs.Prelude.{◌≡◌, ◌+◌, ◌≤◌, length, replicate};
 ghost use Rattle.lines.specs.Text.{end_text, overwrite, refusal_text};
 ghost use Rattle.lines.specs.Page.{line_bytes, page_bytes};
 
@@ -11,7 +11,9 @@ use std::io;
 pub const PAGE_BYTES: usize = 65536;
 
 // A page of zeros.
-pub fn blank() -> [u8; PAGE_BYTES] {
+pub fn blank() -> [u8; PAGE_BYTES]
+    ensures { result ≡ replicate page_bytes 0 }
+{
     [0; PAGE_BYTES]
 }
 
