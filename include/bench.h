@@ -1,7 +1,7 @@
 /* The flight bench for C and C++: blocks, ticks, runs and the mirrored pair.
  *
  * Link crates/bench_c/out/libbench_c.a (x86-64), which `rt lib` in crates/bench_c writes. It keeps no state of its own, asks for no
- * memory and calls nothing but memcpy, so calls from several threads need no lock.
+ * memory and calls nothing but memcpy and memset, so calls from several threads need no lock.
  *
  * Rules for every call: each pointer is followed by its length, counted in elements (bytes of a block, floats of an array). A
  * pointer is never NULL, not even for length 0; an array of floats is aligned as float is. Buffers handed to one call do not

@@ -7,7 +7,6 @@ use mathlib.Core.Bool.{Bool, cond, false, true}
 use mathlib.Core.List.{List}
 use mathlib.Core.Path.{◌≡◌, refl}
 use native.Mathlib.Omega.{arith}
-use Rattle.answers.specs.declared.Answer.{Answer}
 use Rattle.answers.specs.declared.Answer.TheVariants.{Done, StateOutside, WrongLength}
 use Rattle.float.proofs.Tests.{either}
 use Rattle.flight.specs.Envelope.{outside_of}

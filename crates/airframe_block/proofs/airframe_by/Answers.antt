@@ -1,6 +1,5 @@
 -- `airframe_block::airframe_by` meets its contract: what the lent list of rows fills is what the array form fills. Assumes nothing.
 use Rattle.airframe_block.specs.Block.{airframe_by}
-use borrow.Author.Rules.{rules}
 use Rattle.airframe_block.proofs.airframe_by.Goals as goal
 
 pub returns : goal.returns

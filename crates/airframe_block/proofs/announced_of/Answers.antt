@@ -1,6 +1,5 @@
 -- `airframe_block::announced_of` meets its contract. Assumes nothing.
 use mathlib.Core.Path.{◌∙◌, ap}
-use borrow.Author.Rules.{rules}
 use Rattle.airframe_block.proofs.Small.{small-header}
 use Rattle.airframe_block.specs.Block.{announced_by}
 use Rattle.airframe_block.proofs.announced_of.Goals as goal

@@ -1,6 +1,5 @@
 -- `airframe_block::bad_row` meets its contract. Assumes nothing.
-use Prim.Native.Nat.{◌-◌, ◌≤◌}
-use mathlib.Core.Path.{◌∙◌, ◌≡◌, ap, sym}
+use mathlib.Core.Path.{◌∙◌, ap, sym}
 use borrow.Author.Rules.{rules}
 use Rattle.ordered.proofs.Ordered.{fail-end, fail-here, fail-next, from_start, not-false, not-true}
 use Rattle.ordered.specs.Ordered.{first_fail}

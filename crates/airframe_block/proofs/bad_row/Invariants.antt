@@ -1,10 +1,8 @@
 -- `airframe_block::bad_row` meets its contract. Assumes nothing.
 use Prim.Native.Nat.{◌-◌, ◌≤◌}
-use mathlib.Core.Path.{◌∙◌, ◌≡◌, ap, sym}
-use borrow.Author.Rules.{rules}
-use Rattle.ordered.proofs.Ordered.{fail-end, fail-here, fail-next, from_start, not-false, not-true}
+use mathlib.Core.Path.{◌≡◌}
 use Rattle.ordered.specs.Ordered.{first_fail}
-use Rattle.airframe_block.specs.Block.{bad_row, row_fits_at}
+use Rattle.airframe_block.specs.Block.{row_fits_at}
 use Rattle.airframe_block.proofs.bad_row.Given as goal
 
 abbrev pub invariant-loop-k : goal.invariant-loop-k

@@ -1,6 +1,5 @@
 -- `airframe_block::factor_fits` meets its contract. Assumes nothing.
 use lib.Ieee.{of_bits, round}
-use borrow.Author.Rules.{rules}
 use Rattle.airframe_block.specs.Block.{factor_fits}
 use Rattle.airframe_block.proofs.factor_fits.Goals as goal
 

@@ -1,6 +1,5 @@
 -- `airframe_block::header_of` meets its contract. Assumes nothing.
 use Rattle.airframe_block.specs.Block.{header_of}
-use borrow.Author.Rules.{rules}
 use Rattle.airframe_block.proofs.header_of.Goals as goal
 
 pub returns : goal.returns

@@ -1,7 +1,6 @@
 -- `airframe_block::read_airframe` meets its contract. Assumes nothing.
-use mathlib.Core.Path.{◌∙◌, ap, sym}
+use mathlib.Core.Path.{◌∙◌, sym}
 use native.Mathlib.Omega.{arith}
-use borrow.Author.Rules.{rules}
 use borrow.Author.Tests.{lt-ltb}
 use Rattle.airframe_block.proofs.Order.{by-header, by_said, header_refused, length-read, length-refused}
 use Rattle.airframe_block.proofs.Small.{announced-bytes, small-header}

@@ -1,7 +1,6 @@
 -- `airframe_block::read_body` meets its contract. Assumes nothing.
 use mathlib.Core.Path.{◌∙◌, ap, ap₂, sym}
 use native.Mathlib.Omega.{arith}
-use borrow.Author.Rules.{rules}
 use Rattle.airframe_block.proofs.Order.{body-read, body_refused}
 use Rattle.airframe_block.specs.Block.{airframe_by, bytes_of, tested_block, read_rows, reserved_row, rows_from}
 use Rattle.airframe_block.proofs.read_body.Goals as goal

@@ -4,7 +4,6 @@ use mathlib.Core.Path.{◌∙◌, ap}
 use native.Mathlib.Omega.{arith}
 use Rattle.airframe_block.specs.Block.{numbers_from, put_segments, segment_bytes, segments_of}
 use Rattle.airframe_block.proofs.Segments.{base-bytes, base-holds, few, lift-holds, rows-at-is, wash-bytes, wash-holds}
-use borrow.Author.Rules.{rules}
 use Rattle.airframe_block.proofs.read_numbers.Goals as goal
 
 pub segment_bytes-wash_at-requires : goal.segment_bytes-wash_at-requires

@@ -1,9 +1,7 @@
 -- `airframe_block::read_present` meets its contract. The invariant: the first k numbers are put. Assumes nothing.
-use Prim.Native.Nat.{◌+◌, ◌-◌, ◌≤◌}
-use mathlib.Core.Path.{◌∙◌, ◌≡◌, ap, refl}
+use mathlib.Core.Path.{◌∙◌, ap, refl}
 use native.Mathlib.Nat.{le_antisymm}
 use borrow.Author.Rules.{rules}
-use Rattle.airframe.specs.Numbers.{numbers_count}
 use Rattle.block_parts.specs.Parts.{float_at}
 use Rattle.airframe_block.specs.Block.{put_numbers}
 use Rattle.airframe_block.proofs.Segments.{numbers_more}

@@ -1,12 +1,8 @@
 -- `airframe_block::read_present` meets its contract. The invariant: the first k numbers are put. Assumes nothing.
 use Prim.Native.Nat.{◌+◌, ◌-◌, ◌≤◌}
-use mathlib.Core.Path.{◌∙◌, ◌≡◌, ap, refl}
-use native.Mathlib.Nat.{le_antisymm}
-use borrow.Author.Rules.{rules}
+use mathlib.Core.Path.{◌≡◌}
 use Rattle.airframe.specs.Numbers.{numbers_count}
-use Rattle.block_parts.specs.Parts.{float_at}
 use Rattle.airframe_block.specs.Block.{put_numbers}
-use Rattle.airframe_block.proofs.Segments.{numbers_more}
 use Rattle.airframe_block.proofs.read_present.Given as goal
 
 abbrev pub invariant-loop-k : goal.invariant-loop-k

@@ -1,5 +1,4 @@
 -- `airframe_block::read_row` meets its contract. Assumes nothing.
-use borrow.Author.Rules.{rules}
 use Rattle.block_parts.specs.Parts.{float_at}
 use Rattle.airframe_block.specs.Block.{row_from}
 use Rattle.airframe_block.proofs.read_row.Goals as goal

@@ -1,11 +1,9 @@
 -- `airframe_block::read_rows` meets its contract. Assumes nothing.
-use Prim.Native.Nat.{◌-◌, ◌≤◌}
 use lib.Ieee.{of_bits}
 use mathlib.Core.List.{List}
-use mathlib.Core.Path.{◌∙◌, ◌≡◌, ap, refl}
+use mathlib.Core.Path.{◌∙◌, ap, refl}
 use native.Mathlib.Nat.{le_antisymm}
 use borrow.Author.Rules.{rules}
-use Rattle.mixers.specs.Rows.{most_rows}
 use Rattle.mixers.specs.declared.MixRow.{MixRow}
 use Rattle.airframe_block.specs.Block.{put_rows, rows_from}
 use Rattle.airframe_block.proofs.Segments.{rows_more}

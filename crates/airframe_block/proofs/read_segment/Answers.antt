@@ -1,6 +1,5 @@
 -- `airframe_block::read_segment` meets its contract. Assumes nothing.
 use native.Mathlib.Omega.{arith}
-use borrow.Author.Rules.{rules}
 use Rattle.airframe_block.specs.Block.{put_segment}
 use Rattle.airframe_block.proofs.Segments.{present-bytes}
 use Rattle.airframe_block.proofs.read_segment.Goals as goal

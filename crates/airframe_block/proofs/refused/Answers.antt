@@ -1,5 +1,4 @@
 -- `airframe_block::refused` meets its contract. Assumes nothing.
-use borrow.Author.Rules.{rules}
 use Rattle.airframe_block.specs.Block.{refused_airframe}
 use Rattle.airframe_block.proofs.refused.Goals as goal
 

@@ -1,9 +1,7 @@
 -- `airframe_block::reserved_row` meets its contract. Assumes nothing.
-use Prim.Native.Nat.{◌-◌, ◌≤◌}
-use mathlib.Core.Path.{◌∙◌, ◌≡◌, sym}
+use mathlib.Core.Path.{◌∙◌, sym}
 use borrow.Author.Rules.{rules}
 use Rattle.ordered.proofs.Ordered.{fail-end, fail-here, fail-next, from_start, not-false, not-true}
-use Rattle.ordered.specs.Ordered.{first_fail}
 use Rattle.airframe_block.specs.Block.{reserved_row, row_clear}
 use Rattle.airframe_block.proofs.reserved_row.Goals as goal
 

@@ -1,10 +1,8 @@
 -- `airframe_block::reserved_row` meets its contract. Assumes nothing.
 use Prim.Native.Nat.{◌-◌, ◌≤◌}
-use mathlib.Core.Path.{◌∙◌, ◌≡◌, sym}
-use borrow.Author.Rules.{rules}
-use Rattle.ordered.proofs.Ordered.{fail-end, fail-here, fail-next, from_start, not-false, not-true}
+use mathlib.Core.Path.{◌≡◌}
 use Rattle.ordered.specs.Ordered.{first_fail}
-use Rattle.airframe_block.specs.Block.{reserved_row, row_clear}
+use Rattle.airframe_block.specs.Block.{row_clear}
 use Rattle.airframe_block.proofs.reserved_row.Given as goal
 
 abbrev pub invariant-loop-k : goal.invariant-loop-k

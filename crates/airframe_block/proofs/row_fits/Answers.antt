@@ -1,6 +1,4 @@
 -- `airframe_block::row_fits` meets its contract. Assumes nothing.
-use borrow.Author.Rules.{rules}
-use Rattle.mixers.specs.Slots.{at}
 use Rattle.airframe_block.specs.Block.{row_fits}
 use Rattle.airframe_block.proofs.row_fits.Goals as goal
 

@@ -2,7 +2,6 @@
 use Prim.Native.Nat.{ℕ}
 use lib.Dec.{eqb}
 use mathlib.Core.Path.{◌∙◌, ap}
-use borrow.Author.Rules.{rules}
 use Rattle.airframe.specs.Acceptance.{lowest_place}
 use Rattle.airframe_block.specs.Block.{accepted_airframe, tested_block, tested_airframe}
 use Rattle.airframe_block.proofs.Order.{place-accepted, place-refused}

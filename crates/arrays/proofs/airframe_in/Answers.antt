@@ -1,6 +1,5 @@
 -- `arrays::airframe_in` meets its contract. Assumes nothing.
 use Rattle.arrays.specs.Airframe.{airframe_in, airframe_with}
-use borrow.Author.Rules.{rules}
 use Rattle.arrays.proofs.airframe_in.Goals as goal
 
 pub returns : goal.returns

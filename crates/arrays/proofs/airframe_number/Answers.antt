@@ -2,7 +2,6 @@
 use borrow.Author.Tests.{le-ltb, lt-ltb}
 use native.Mathlib.Omega.{arith}
 use Rattle.arrays.specs.Airframe.{airframe_number}
-use borrow.Author.Rules.{rules}
 use Rattle.arrays.proofs.airframe_number.Goals as goal
 
 pub returns-then-k-lt-KIND_AT : goal.returns-then-k-lt-KIND_AT

@@ -1,10 +1,8 @@
 -- `arrays::flags_in` meets its contract. Assumes nothing.
 use borrow.Author.Rules.{rules}
-use Prim.Native.Nat.{◌+◌, ◌-◌, ℕ}
-use Rattle.mixers.proofs.Slots.{Filled, fill_end, fill_more, fill_start}
-use Rattle.mixers.specs.Slots.{at}
+use Rattle.mixers.proofs.Slots.{fill_end, fill_more, fill_start}
 use mathlib.Core.Bool.{false}
-use Rattle.arrays.specs.Airframe.{flags_in, is_set}
+use Rattle.arrays.specs.Airframe.{flags_in}
 use Rattle.arrays.proofs.flags_in.Goals as goal
 
 pub loop-k-init : goal.loop-k-init

@@ -1,10 +1,9 @@
 -- `arrays::flags_in` meets its contract. Assumes nothing.
-use borrow.Author.Rules.{rules}
 use Prim.Native.Nat.{◌+◌, ◌-◌, ℕ}
-use Rattle.mixers.proofs.Slots.{Filled, fill_end, fill_more, fill_start}
+use Rattle.mixers.proofs.Slots.{Filled}
 use Rattle.mixers.specs.Slots.{at}
 use mathlib.Core.Bool.{false}
-use Rattle.arrays.specs.Airframe.{flags_in, is_set}
+use Rattle.arrays.specs.Airframe.{is_set}
 use Rattle.arrays.proofs.flags_in.Given as goal
 
 abbrev pub invariant-loop-k : goal.invariant-loop-k

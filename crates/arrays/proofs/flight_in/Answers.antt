@@ -1,6 +1,5 @@
 -- `arrays::flight_in` meets its contract. Assumes nothing.
 use Rattle.arrays.specs.Flight.{flight_in}
-use borrow.Author.Rules.{rules}
 use Rattle.arrays.proofs.flight_in.Goals as goal
 
 pub returns : goal.returns

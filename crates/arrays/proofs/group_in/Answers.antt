@@ -1,6 +1,5 @@
 -- `arrays::group_in` meets its contract. Assumes nothing.
 use Rattle.arrays.specs.Airframe.{group_in}
-use borrow.Author.Rules.{rules}
 use Rattle.arrays.proofs.group_in.Goals as goal
 
 pub returns : goal.returns

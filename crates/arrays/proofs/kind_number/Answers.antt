@@ -1,6 +1,5 @@
 -- `arrays::kind_number` meets its contract. Assumes nothing.
 use lib.Ieee.{of_bits, round}
-use borrow.Author.Rules.{rules}
 use Rattle.arrays.proofs.kind_number.Goals as goal
 
 pub returns-in-Linear : goal.returns-in-Linear

@@ -3,7 +3,6 @@ use Rattle.airframe.specs.Promises.{lag_constants_of}
 use Rattle.airframe.specs.FromNumbers.{airframe_of, model_of}
 use Rattle.float.specs.Lists.{list_from, list_of}
 use Rattle.arrays.specs.Airframe.{airframe_in, airframe_with, group_in, number_at, numbers_in}
-use borrow.Author.Rules.{rules}
 use Rattle.arrays.proofs.lag_constants_in.Goals as goal
 
 pub returns : goal.returns

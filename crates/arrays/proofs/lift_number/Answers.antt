@@ -1,7 +1,6 @@
 -- `arrays::lift_number` meets its contract. Assumes nothing.
 use borrow.Author.Tests.{le-ltb, lt-ltb}
 use Rattle.arrays.specs.Airframe.{lift_number}
-use borrow.Author.Rules.{rules}
 use Rattle.arrays.proofs.lift_number.Goals as goal
 
 pub returns-then-k-lt-LIFT_PRESENT_AT : goal.returns-then-k-lt-LIFT_PRESENT_AT

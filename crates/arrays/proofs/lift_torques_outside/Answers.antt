@@ -1,6 +1,5 @@
 -- `arrays::lift_torques_outside` meets its contract. Assumes nothing.
 use Rattle.airframe.specs.Acceptance.{lift_torques_outside}
-use borrow.Author.Rules.{rules}
 use Rattle.arrays.proofs.lift_torques_outside.Goals as goal
 
 pub returns-then-present : goal.returns-then-present

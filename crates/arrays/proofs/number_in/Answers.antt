@@ -1,5 +1,4 @@
 -- `arrays::number_in` meets its contract. Assumes nothing.
-use borrow.Author.Rules.{rules}
 use Rattle.arrays.proofs.number_in.Goals as goal
 
 pub returns : goal.returns

@@ -1,15 +1,11 @@
 -- `arrays::numbers_in` meets its contract: the first loop reads the numbers before the lift rotors', the second theirs. Assumes nothing.
-use borrow.Author.Rules.{rules}
 use Prim.Native.Nat.{◌-◌, ◌≤◌, ℕ}
 use lib.Ieee.{Float, nan}
 use mathlib.Core.List.{List}
-use mathlib.Core.Path.{ap, refl, sym}
-use native.Mathlib.Omega.{arith}
 use Rattle.airframe.specs.Numbers.{lift_first, numbers_count}
-use Rattle.mixers.proofs.Filling.{Reached, reach-end, reach-more, reach-start}
+use Rattle.mixers.proofs.Filling.{Reached}
 use Rattle.mixers.specs.Slots.{at}
-use Rattle.arrays.proofs.Numbers.{place-before, place-behind}
-use Rattle.arrays.specs.Airframe.{number_at, numbers_in}
+use Rattle.arrays.specs.Airframe.{number_at}
 use Rattle.arrays.proofs.numbers_in.Given as goal
 
 -- number j of those by place

@@ -1,10 +1,8 @@
 -- `arrays::put_airframe` meets its contract. Assumes nothing.
-use borrow.Author.Rules.{rules}
 use Prim.Native.Nat.{◌-◌}
 use lib.Ieee.{nan}
-use native.Mathlib.Omega.{arith}
-use Rattle.mixers.proofs.Filling.{Reached, reach-end, reach-more, reach-start}
-use Rattle.arrays.specs.Airframe.{airframe_number, airframe_numbers, airframe_numbers_count}
+use Rattle.mixers.proofs.Filling.{Reached}
+use Rattle.arrays.specs.Airframe.{airframe_number, airframe_numbers_count}
 use Rattle.arrays.proofs.put_airframe.Given as goal
 
 abbrev pub invariant-loop-k : goal.invariant-loop-k

@@ -1,5 +1,4 @@
 -- `arrays::put_tick` meets its contract. Assumes nothing.
-use borrow.Author.Rules.{rules}
 use Rattle.arrays.proofs.put_tick.Goals as goal
 
 pub returns : goal.returns

@@ -1,7 +1,6 @@
 -- `arrays::quat_in` meets its contract. Assumes nothing.
 use mathlib.Core.Path.{refl}
 use Rattle.arrays.specs.Flight.{quat_in}
-use borrow.Author.Rules.{rules}
 use Rattle.arrays.proofs.quat_in.Goals as goal
 
 pub returns : goal.returns

@@ -3,7 +3,6 @@ use mathlib.Core.Path.{◌∙◌, ◌≡◌, sym}
 use Rattle.float.specs.Lists.{list_from, list_of}
 use Rattle.arrays.proofs.Numbers.{array-refused, tests}
 use Rattle.arrays.specs.Airframe.{number_at, numbers_in}
-use borrow.Author.Rules.{rules}
 use Rattle.arrays.proofs.refused_place.Goals as goal
 
 pub returns : goal.returns

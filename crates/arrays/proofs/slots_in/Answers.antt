@@ -2,7 +2,6 @@
 use mathlib.Core.Path.{refl}
 use native.Mathlib.Numerals.{unary_clauses}
 use Rattle.arrays.specs.Flight.{slots_in}
-use borrow.Author.Rules.{rules}
 use Rattle.arrays.proofs.slots_in.Goals as goal
 
 pub returns : goal.returns

@@ -1,6 +1,5 @@
 -- `arrays::tick_in` meets its contract. Assumes nothing.
 use Rattle.arrays.specs.Flight.{tick_in}
-use borrow.Author.Rules.{rules}
 use Rattle.arrays.proofs.tick_in.Goals as goal
 
 pub returns : goal.returns

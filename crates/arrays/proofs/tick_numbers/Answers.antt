@@ -1,7 +1,6 @@
 -- `arrays::tick_numbers` meets its contract. Assumes nothing.
 use mathlib.Core.Path.{refl}
 use Rattle.arrays.specs.Flight.{tick_numbers}
-use borrow.Author.Rules.{rules}
 use Rattle.arrays.proofs.tick_numbers.Goals as goal
 
 pub returns : goal.returns

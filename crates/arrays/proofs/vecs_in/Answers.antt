@@ -1,12 +1,9 @@
 -- `arrays::vecs_in` meets its contract. Assumes nothing.
 use borrow.Author.Rules.{rules}
-use Prim.Native.Nat.{◌-◌}
-use Prim.Native.Nat.{◌*◌, ◌+◌, ℕ}
 use lib.Ieee.{nan}
-use Rattle.mixers.proofs.Slots.{Filled, fill_end, fill_more, fill_start}
+use Rattle.mixers.proofs.Slots.{fill_end, fill_more, fill_start}
 use Rattle.vector.specs.Vector.{vec}
 use Rattle.arrays.specs.Airframe.{vecs_in}
-use Rattle.arrays.specs.Flight.{vec_in}
 use Rattle.arrays.proofs.vecs_in.Goals as goal
 
 pub loop-k-init : goal.loop-k-init

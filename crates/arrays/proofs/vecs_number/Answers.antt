@@ -1,7 +1,6 @@
 -- `arrays::vecs_number` meets its contract. Assumes nothing.
 use borrow.Author.Tests.{eq-eqb, ne_eqb}
 use Rattle.arrays.specs.Airframe.{axis_of, vecs_number}
-use borrow.Author.Rules.{rules}
 use Rattle.arrays.proofs.vecs_number.Goals as goal
 
 pub returns-then-axis-eq0 : goal.returns-then-axis-eq0

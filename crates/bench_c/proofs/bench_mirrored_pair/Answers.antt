@@ -5,7 +5,6 @@ use Rattle.bench_c.proofs.Pair.{pair-mirrors}
 use native.Mathlib.Nat.{suc-ne-zero}
 use native.Mathlib.Omega.{arith}
 use mathlib.Core.Path.{◌∙◌, sym}
-use borrow.Author.Rules.{rules}
 use Rattle.bench_c.proofs.bench_mirrored_pair.Goals as goal
 
 pub flight_in-f-requires : goal.flight_in-f-requires

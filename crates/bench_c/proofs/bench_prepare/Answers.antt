@@ -1,7 +1,6 @@
 -- `bench_c::bench_prepare` meets its contract. Assumes nothing.
 use borrow.Author.Tests.{eq-eqb, ne_eqb}
 use Rattle.bench_c.specs.Library.{prepare}
-use borrow.Author.Rules.{rules}
 use Rattle.bench_c.proofs.bench_prepare.Goals as goal
 
 pub returns-then-lent-ne-AIRFRAME_NUMBERS : goal.returns-then-lent-ne-AIRFRAME_NUMBERS

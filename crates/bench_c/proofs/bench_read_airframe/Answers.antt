@@ -1,5 +1,4 @@
 -- `bench_c::bench_read_airframe` meets its contract. Assumes nothing.
-use borrow.Author.Rules.{rules}
 use Rattle.bench_c.proofs.bench_read_airframe.Goals as goal
 
 pub returns : goal.returns

@@ -1,7 +1,6 @@
 -- `bench_c::bench_read_state` meets its contract. Assumes nothing.
 use borrow.Author.Tests.{eq-eqb, ne_eqb}
 use Rattle.bench_c.specs.Library.{read_state}
-use borrow.Author.Rules.{rules}
 use Rattle.bench_c.proofs.bench_read_state.Goals as goal
 
 pub returns-then-lent-ne-STATE_NUMBERS : goal.returns-then-lent-ne-STATE_NUMBERS

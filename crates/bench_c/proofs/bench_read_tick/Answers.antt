@@ -1,7 +1,6 @@
 -- `bench_c::bench_read_tick` meets its contract. Assumes nothing.
 use borrow.Author.Tests.{eq-eqb, ne_eqb}
 use Rattle.bench_c.specs.Library.{read_tick}
-use borrow.Author.Rules.{rules}
 use Rattle.bench_c.proofs.bench_read_tick.Goals as goal
 
 pub returns-then-lent-ne-TICK_NUMBERS : goal.returns-then-lent-ne-TICK_NUMBERS

@@ -1,7 +1,6 @@
 -- `bench_c::bench_run` meets its contract: where the array fits, what is handed back is the run from the state that was read from it. Assumes nothing.
 use Rattle.bench_c.specs.Library.{run}
 use borrow.Author.Tests.{eq-eqb, ne_eqb}
-use borrow.Author.Rules.{rules}
 use Rattle.bench_c.proofs.bench_run.Goals as goal
 
 pub returns-then-lent-eq-STATE_NUMBERS : goal.returns-then-lent-eq-STATE_NUMBERS

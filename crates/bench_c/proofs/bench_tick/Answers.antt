@@ -3,7 +3,6 @@ use Rattle.bench_c.specs.Library.{tick}
 use Rattle.bench_c.proofs.Lengths.{arrays-fit}
 use native.Mathlib.Omega.{arith}
 use mathlib.Core.Path.{◌∙◌, sym}
-use borrow.Author.Rules.{rules}
 use Rattle.bench_c.proofs.bench_tick.Goals as goal
 
 pub flight_in-f-requires : goal.flight_in-f-requires

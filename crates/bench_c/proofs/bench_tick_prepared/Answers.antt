@@ -4,7 +4,6 @@ use borrow.Author.Tests.{eq-eqb, ne_eqb}
 use Rattle.bench_c.proofs.Lengths.{arrays-fit}
 use native.Mathlib.Omega.{arith}
 use mathlib.Core.Path.{◌∙◌, sym}
-use borrow.Author.Rules.{rules}
 use Rattle.bench_c.proofs.bench_tick_prepared.Goals as goal
 
 pub flight_in-f-requires : goal.flight_in-f-requires

@@ -1,7 +1,6 @@
 -- `bench_c::bench_write_tick` meets its contract. Assumes nothing.
 use borrow.Author.Tests.{eq-eqb, ne_eqb}
 use Rattle.bench_c.specs.Library.{write_tick}
-use borrow.Author.Rules.{rules}
 use Rattle.bench_c.proofs.bench_write_tick.Goals as goal
 
 pub returns-then-tick-ne-TICK_NUMBERS : goal.returns-then-tick-ne-TICK_NUMBERS

@@ -1,5 +1,4 @@
 -- `bench_c::ended_pair` meets its contract. Assumes nothing.
-use borrow.Author.Rules.{rules}
 use Rattle.bench_c.proofs.ended_pair.Goals as goal
 
 pub returns-clause-first_value : goal.returns-clause-first_value

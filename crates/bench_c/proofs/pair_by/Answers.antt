@@ -4,7 +4,6 @@ use borrow.Author.Tests.{eqb-false}
 use native.Mathlib.Nat.{suc-ne-zero}
 use Rattle.bench_c.proofs.Pair.{ended-mirror, ended-number}
 use Rattle.bench_c.specs.Library.{run_result_by, reflected_by}
-use borrow.Author.Rules.{rules}
 use Rattle.bench_c.proofs.pair_by.Goals as goal
 
 pub returns-then-is_done : goal.returns-then-is_done

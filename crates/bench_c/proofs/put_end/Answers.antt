@@ -1,7 +1,6 @@
 -- `bench_c::put_end` meets its contract. Assumes nothing.
 use mathlib.Core.Path.{◌∙◌, sym}
 use Rattle.bench_c.specs.Library.{state_after_run}
-use borrow.Author.Rules.{rules}
 use Rattle.bench_c.proofs.put_end.Goals as goal
 
 pub returns-then-is_done : goal.returns-then-is_done

@@ -1,6 +1,5 @@
 -- `bench_c::reply` meets its contract. Assumes nothing.
 use Rattle.bench_c.specs.Library.{reply_of}
-use borrow.Author.Rules.{rules}
 use Rattle.bench_c.proofs.reply.Goals as goal
 
 pub returns : goal.returns

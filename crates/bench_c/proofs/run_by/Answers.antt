@@ -1,7 +1,6 @@
 -- `bench_c::run_by` meets its contract. Assumes nothing.
 use mathlib.Core.Path.{◌∙◌, sym}
 use Rattle.bench_c.specs.Library.{run_result_by}
-use borrow.Author.Rules.{rules}
 use Rattle.bench_c.proofs.run_by.Goals as goal
 
 pub returns-then-is_done : goal.returns-then-is_done

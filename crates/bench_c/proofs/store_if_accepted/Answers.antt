@@ -1,7 +1,6 @@
 -- `bench_c::store_if_accepted` meets its contract. Assumes nothing.
 use mathlib.Core.Path.{◌∙◌, sym}
 use Rattle.bench_c.specs.Library.{state_after_tick}
-use borrow.Author.Rules.{rules}
 use Rattle.bench_c.proofs.store_if_accepted.Goals as goal
 
 pub returns-then-is_done : goal.returns-then-is_done

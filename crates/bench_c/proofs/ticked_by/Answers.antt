@@ -1,7 +1,6 @@
 -- `bench_c::ticked_by` meets its contract. Assumes nothing.
 use mathlib.Core.Path.{◌∙◌, sym}
 use Rattle.bench_c.specs.Library.{ticked_by}
-use borrow.Author.Rules.{rules}
 use Rattle.bench_c.proofs.ticked_by.Goals as goal
 
 pub returns-then-is_done : goal.returns-then-is_done

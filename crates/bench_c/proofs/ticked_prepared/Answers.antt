@@ -4,7 +4,6 @@ use Rattle.airframe.specs.Acceptance.{refused_place}
 use Rattle.wing.specs.Tick.{tick_of, tick_with}
 use Rattle.ordered.proofs.Ordered.{some-eqb}
 use mathlib.Core.Path.{◌∙◌, ap, sym}
-use borrow.Author.Rules.{rules}
 use Rattle.bench_c.proofs.ticked_prepared.Goals as goal
 
 pub tick_accepted-requires : goal.tick_accepted-requires

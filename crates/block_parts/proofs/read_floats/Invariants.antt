@@ -1,9 +1,8 @@
 -- `block_parts::read_floats` meets its contract. Assumes nothing.
 use Prim.Native.Nat.{◌-◌}
 use lib.Ieee.{nan}
-use borrow.Author.Rules.{rules}
-use Rattle.mixers.proofs.Slots.{Filled, fill_end, fill_more, fill_start}
-use Rattle.block_parts.specs.Parts.{float_at, floats_from, slot_from}
+use Rattle.mixers.proofs.Slots.{Filled}
+use Rattle.block_parts.specs.Parts.{slot_from}
 use Rattle.block_parts.proofs.read_floats.Given as goal
 
 abbrev pub invariant-loop-k : goal.invariant-loop-k

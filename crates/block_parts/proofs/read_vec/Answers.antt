@@ -1,5 +1,4 @@
 -- `block_parts::read_vec` meets its contract. Assumes nothing.
-use borrow.Author.Rules.{rules}
 use Rattle.block_parts.specs.Parts.{float_at, vec_from}
 use Rattle.block_parts.proofs.read_vec.Goals as goal
 

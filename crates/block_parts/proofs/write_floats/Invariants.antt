@@ -1,11 +1,8 @@
 -- `block_parts::write_floats` meets its contract. Assumes nothing.
 use Prim.Native.Nat.{◌-◌, ◌≤◌}
-use lib.ListN.{length, length-set}
-use mathlib.Core.Path.{◌∙◌, ◌≡◌, ap, refl}
-use native.Mathlib.Nat.{le_antisymm}
-use borrow.Author.Rules.{rules}
-use Rattle.block_parts.proofs.Writing.{put-slot}
-use Rattle.block_parts.specs.Parts.{put_float, put_floats}
+use lib.ListN.{length}
+use mathlib.Core.Path.{◌≡◌}
+use Rattle.block_parts.specs.Parts.{put_floats}
 use Rattle.block_parts.proofs.write_floats.Given as goal
 
 abbrev pub invariant-loop-k : goal.invariant-loop-k

@@ -1,5 +1,4 @@
 -- `block_parts::write_vec` meets its contract. Assumes nothing.
-use borrow.Author.Rules.{rules}
 use Rattle.block_parts.specs.Parts.{put_float, put_vec}
 use Rattle.block_parts.proofs.write_vec.Goals as goal
 

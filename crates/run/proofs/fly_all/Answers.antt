@@ -1,18 +1,14 @@
 -- `run::fly_all` meets its contract. Assumes nothing.
-use Prim.Native.Nat.{◌+◌, ◌-◌, ◌≤◌, ℕ}
 use lib.Ieee.{binary32}
 use lib.Ieee.Bits.{of_bits-fits}
-use mathlib.Core.Bool.{true}
 use mathlib.Core.List.{foldl-map}
-use mathlib.Core.Path.{◌∙◌, ◌≡◌, ap, refl, subst, sym}
-use mir.Syntax.{w64}
-use mir.Val.{Fits}
+use mathlib.Core.Path.{◌∙◌, ap, refl, subst, sym}
 use native.Mathlib.Omega.{arith}
 use borrow.Author.Rules.{rules}
 use Rattle.answers.specs.declared.Answer.TheVariants.{Done}
 use Rattle.flight.specs.Envelope.{is_inside}
-use Rattle.trace.proofs.Trace.{after, after-all, after_more}
-use Rattle.trace.specs.Trace.{tick_at, tick_count, ticks_from, ticks_of}
+use Rattle.trace.proofs.Trace.{after-all, after_more}
+use Rattle.trace.specs.Trace.{tick_at, ticks_from, ticks_of}
 use Rattle.wing.proofs.Steps.{begin-of-its-step}
 use Rattle.wing.specs.Promises.{FactorsMatchStep}
 use Rattle.wing.specs.declared.TickResult.{TickResult}

@@ -2,7 +2,6 @@
 use mathlib.Core.List.{map}
 use mathlib.Core.Path.{◌∙◌, ◌≡◌, ap, sym}
 use native.Mathlib.Omega.{arith}
-use borrow.Author.Rules.{rules}
 use Rattle.airframe.specs.Reflection.{reflect_airframe}
 use Rattle.flight.specs.Reflection.{reflect_flight, reflect_tick}
 use Rattle.float.proofs.Representable.{field-representable}

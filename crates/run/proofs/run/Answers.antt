@@ -1,6 +1,5 @@
 -- `run::run` meets its contract. Assumes nothing.
 use mathlib.Core.Path.{◌∙◌, ap}
-use borrow.Author.Rules.{rules}
 use Rattle.trace.specs.Trace.{ticks_of}
 use Rattle.run.proofs.Loop.{plain-track}
 use Rattle.run.specs.Promises.{track_result}

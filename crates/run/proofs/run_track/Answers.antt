@@ -8,7 +8,6 @@ use Rattle.airframe.specs.Acceptance.{refused_place}
 use mathlib.Core.Path.{◌∙◌, ◌≡◌, sym}
 use mathlib.Core.List.{map}
 use mathlib.Core.Bool.{false}
-use borrow.Author.Rules.{rules}
 use Rattle.run.proofs.run_track.Goals as goal
 
 pub fly_all-requires-clause-airframe_accepted : goal.fly_all-requires-clause-airframe_accepted

@@ -1,5 +1,4 @@
 -- `run::tick_at` meets its contract. Assumes nothing.
-use borrow.Author.Rules.{rules}
 use Rattle.run.specs.Promises.{reflected_if}
 use Rattle.run.proofs.tick_at.Goals as goal
 

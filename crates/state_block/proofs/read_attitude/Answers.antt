@@ -1,5 +1,4 @@
 -- `state_block::read_attitude` meets its contract. Assumes nothing.
-use borrow.Author.Rules.{rules}
 use Rattle.block_parts.specs.Parts.{float_at}
 use Rattle.state_block.specs.Layout.{attitude_from}
 use Rattle.state_block.proofs.read_attitude.Goals as goal

@@ -1,5 +1,4 @@
 -- `state_block::read_flight` meets its contract. Assumes nothing.
-use borrow.Author.Rules.{rules}
 use Rattle.state_block.specs.Layout.{flight_with}
 use Rattle.state_block.proofs.read_flight.Goals as goal
 

@@ -1,5 +1,4 @@
 -- `state_block::read_full_state` meets its contract. Assumes nothing.
-use borrow.Author.Rules.{rules}
 use borrow.Author.Tests.{eq-eqb, ne_eqb}
 use Rattle.state_block.specs.Layout.{read_full_of}
 use Rattle.state_block.proofs.read_full_state.Goals as goal

@@ -1,6 +1,5 @@
 -- `state_block::read_state` meets its contract. Assumes nothing.
 use lib.Ieee.{of_bits}
-use borrow.Author.Rules.{rules}
 use borrow.Author.Tests.{eq-eqb, ne_eqb}
 use Rattle.state_block.specs.Layout.{flight_from, read_state_of}
 use Rattle.state_block.proofs.read_state.Goals as goal

@@ -1,5 +1,4 @@
 -- `state_block::refused` meets its contract. Assumes nothing.
-use borrow.Author.Rules.{rules}
 use Rattle.state_block.specs.Layout.{refused_state}
 use Rattle.state_block.proofs.refused.Goals as goal
 

@@ -1,6 +1,5 @@
 -- `state_block::tested` meets its contract. Assumes nothing.
 use mathlib.Core.Path.{◌∙◌, sym}
-use borrow.Author.Rules.{rules}
 use borrow.Author.Tests.{eq-eqb, ne_eqb}
 use Rattle.state_block.specs.Layout.{accepted_state, tested_state}
 use Rattle.state_block.proofs.tested.Goals as goal

@@ -1,5 +1,4 @@
 -- `state_block::write_attitude` meets its contract. Assumes nothing.
-use borrow.Author.Rules.{rules}
 use Rattle.block_parts.specs.Parts.{put_float}
 use Rattle.state_block.specs.Layout.{put_attitude}
 use Rattle.state_block.proofs.write_attitude.Goals as goal

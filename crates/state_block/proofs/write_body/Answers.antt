@@ -1,5 +1,4 @@
 -- `state_block::write_body` meets its contract. Assumes nothing.
-use borrow.Author.Rules.{rules}
 use Rattle.state_block.specs.Layout.{put_body}
 use Rattle.state_block.proofs.write_body.Goals as goal
 

@@ -3,7 +3,6 @@ use Prim.Native.Nat.{◌+◌, ℕ}
 use lib.Ieee.{Float}
 use mathlib.Core.List.{List}
 use mathlib.Core.Path.{◌∙◌, ap}
-use borrow.Author.Rules.{rules}
 use Rattle.block_parts.specs.Parts.{put_floats}
 use Rattle.state_block.specs.Layout.{lift_at, motors_at, put_body, put_flight, scales_at, servos_at}
 use Rattle.state_block.proofs.write_flight.Goals as goal

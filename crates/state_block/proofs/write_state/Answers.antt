@@ -1,6 +1,5 @@
 -- `state_block::write_state` meets its contract. Assumes nothing.
 use mathlib.Core.Path.{◌∙◌}
-use borrow.Author.Rules.{rules}
 use borrow.Author.Tests.{eq-eqb, ne_eqb}
 use Rattle.block_parts.specs.Parts.{write_answer}
 use Rattle.state_block.specs.Layout.{written_state}

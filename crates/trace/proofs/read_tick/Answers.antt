@@ -1,5 +1,4 @@
 -- `trace::read_tick` meets its contract. Assumes nothing.
-use borrow.Author.Rules.{rules}
 use Rattle.block_parts.specs.Parts.{float_at}
 use Rattle.trace.specs.Tick.{tick_from}
 use Rattle.trace.proofs.read_tick.Goals as goal

@@ -1,5 +1,4 @@
 -- `trace::read_tick_block` meets its contract. Assumes nothing.
-use borrow.Author.Rules.{rules}
 use borrow.Author.Tests.{eq-eqb, ne_eqb}
 use Rattle.trace.specs.Tick.{read_tick_of}
 use Rattle.trace.proofs.read_tick_block.Goals as goal

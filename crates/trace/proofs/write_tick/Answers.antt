@@ -1,6 +1,5 @@
 -- `trace::write_tick` meets its contract. Assumes nothing.
 use mathlib.Core.Path.{◌∙◌}
-use borrow.Author.Rules.{rules}
 use borrow.Author.Tests.{eq-eqb, ne_eqb}
 use Rattle.block_parts.specs.Parts.{write_answer}
 use Rattle.trace.specs.Tick.{written_tick}

@@ -1,5 +1,4 @@
 -- `trace::write_tick_at` meets its contract. Assumes nothing.
-use borrow.Author.Rules.{rules}
 use Rattle.block_parts.specs.Parts.{put_float}
 use Rattle.trace.specs.Tick.{put_tick}
 use Rattle.trace.proofs.write_tick_at.Goals as goal

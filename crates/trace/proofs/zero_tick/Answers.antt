@@ -1,6 +1,5 @@
 -- `trace::zero_tick` meets its contract. Assumes nothing.
 use lib.Ieee.{of_bits}
-use borrow.Author.Rules.{rules}
 use Rattle.trace.specs.Tick.{zero_tick}
 use Rattle.trace.proofs.zero_tick.Goals as goal
 

@@ -1,5 +1,4 @@
 -- `wing::begin` meets its contract. Assumes nothing.
-use borrow.Author.Rules.{rules}
 use Rattle.wing.proofs.begin.Goals as goal
 
 pub returns : goal.returns

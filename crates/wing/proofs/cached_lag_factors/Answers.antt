@@ -3,7 +3,6 @@ use Rattle.wing.proofs.Steps.{begin-of-its-step, begin-held}
 use Rattle.wing.specs.Promises.{FactorsMatchStep}
 use lib.Dec.{T}
 use mathlib.Core.Path.{◌∙◌, subst, sym}
-use borrow.Author.Rules.{rules}
 use Rattle.wing.proofs.cached_lag_factors.Goals as goal
 
 pub returns-then-to_bits-held-clause-value : goal.returns-then-to_bits-held-clause-value

@@ -1,6 +1,5 @@
 -- `wing::density_for` meets its contract. Assumes nothing.
 use Rattle.wing.specs.Tick.{density_for}
-use borrow.Author.Rules.{rules}
 use Rattle.wing.proofs.density_for.Goals as goal
 
 pub returns : goal.returns

@@ -1,6 +1,5 @@
 -- `wing::lag_factors_from` meets its contract. Assumes nothing.
 use Rattle.wing.specs.Promises.{lag_factors_from}
-use borrow.Author.Rules.{rules}
 use Rattle.wing.proofs.lag_factors_from.Goals as goal
 
 pub returns : goal.returns

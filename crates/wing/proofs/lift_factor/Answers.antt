@@ -1,7 +1,6 @@
 -- `wing::lift_factor` meets its contract. Assumes nothing.
 use lib.Ieee.{of_bits}
 use Rattle.wing.specs.Promises.{lift_factor}
-use borrow.Author.Rules.{rules}
 use Rattle.wing.proofs.lift_factor.Goals as goal
 
 pub returns-then-constants : goal.returns-then-constants

@@ -1,6 +1,5 @@
 -- `wing::lift_spun` meets its contract. Assumes nothing.
 use Rattle.wing.specs.Tick.{lift_spun}
-use borrow.Author.Rules.{rules}
 use Rattle.wing.proofs.lift_spun.Goals as goal
 
 pub returns-then-a : goal.returns-then-a

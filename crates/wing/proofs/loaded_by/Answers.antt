@@ -1,6 +1,5 @@
 -- `wing::loaded_by` meets its contract. Assumes nothing.
 use Rattle.wing.specs.Loads.{loaded_by}
-use borrow.Author.Rules.{rules}
 use Rattle.wing.proofs.loaded_by.Goals as goal
 
 pub returns : goal.returns

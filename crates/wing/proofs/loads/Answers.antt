@@ -1,6 +1,5 @@
 -- `wing::loads` meets its contract. Assumes nothing.
 use Rattle.wing.specs.Loads.{aero_of, air_of, loads_of, loads_under, pull_of}
-use borrow.Author.Rules.{rules}
 use Rattle.wing.proofs.loads.Goals as goal
 
 pub with_lift-total-requires : goal.with_lift-total-requires

@@ -1,5 +1,4 @@
 -- `wing::stepped` meets its contract. Assumes nothing.
-use borrow.Author.Rules.{rules}
 use Rattle.wing.specs.Tick.{mass_of, stepped_of}
 use Rattle.wing.proofs.stepped.Goals as goal
 

@@ -3,11 +3,9 @@ use Prim.Native.Nat.{ℕ}
 use lib.Dec.{eqb}
 use mathlib.Core.Bool.{false}
 use mathlib.Core.Path.{◌∙◌, ◌≡◌, ap, sym}
-use borrow.Author.Rules.{rules}
 use Rattle.airframe.specs.Acceptance.{refused_place}
 use Rattle.answers.specs.declared.Answer.TheVariants.{NumberOutOfRange}
 use Rattle.ordered.proofs.Ordered.{some-eqb}
-use Rattle.mixers.specs.Slots.{at}
 use Rattle.wing.specs.Tick.{refused_of, tick_of, tick_with}
 use Rattle.wing.proofs.tick.Goals as goal
 

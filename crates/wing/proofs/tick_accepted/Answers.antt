@@ -1,7 +1,6 @@
 -- `wing::tick_accepted` meets its contract. Assumes nothing.
 use Rattle.wing.specs.Tick.{accepted_tick, tick_of, tick_with}
 use mathlib.Core.Path.{◌∙◌, sym}
-use borrow.Author.Rules.{rules}
 use Rattle.wing.proofs.tick_accepted.Goals as goal
 
 pub tick_inside-requires : goal.tick_inside-requires

@@ -2,7 +2,6 @@
 use Rattle.wing.specs.Tick.{accepted_tick, tick_of, tick_with}
 use mathlib.Core.Path.{◌∙◌, sym}
 use lib.Ieee.{of_bits, round}
-use borrow.Author.Rules.{rules}
 use Rattle.wing.proofs.tick_inside.Goals as goal
 
 pub returns-then-wind_usable : goal.returns-then-wind_usable

@@ -1,6 +1,4 @@
 -- `wing::unless_departed` meets its contract. Assumes nothing.
-use borrow.Author.Rules.{rules}
-use Rattle.mixers.specs.Slots.{at}
 use Rattle.wing.specs.Tick.{unless_departed}
 use Rattle.wing.proofs.unless_departed.Goals as goal
 

@@ -1,5 +1,4 @@
 -- `wing::wash_of` meets its contract. Assumes nothing.
-use borrow.Author.Rules.{rules}
 use Rattle.wing.specs.Loads.{wash_for}
 use Rattle.wing.proofs.wash_of.Goals as goal
 

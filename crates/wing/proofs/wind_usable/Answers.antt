@@ -1,7 +1,6 @@
 -- `wing::wind_usable` meets its contract. Assumes nothing.
 use Rattle.wing.specs.Tick.{wind_usable}
 use lib.Ieee.{of_bits, round}
-use borrow.Author.Rules.{rules}
 use Rattle.wing.proofs.wind_usable.Goals as goal
 
 pub returns : goal.returns

@@ -1,6 +1,5 @@
 -- `wing::with_lift` meets its contract. Assumes nothing.
 use Rattle.wing.specs.Loads.{with_lift}
-use borrow.Author.Rules.{rules}
 use Rattle.wing.proofs.with_lift.Goals as goal
 
 pub returns-then-a : goal.returns-then-a

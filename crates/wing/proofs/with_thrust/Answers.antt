@@ -1,7 +1,6 @@
 -- `wing::with_thrust` meets its contract. Assumes nothing.
 use lib.Ieee.{of_bits}
 use Rattle.wing.specs.Loads.{with_thrust}
-use borrow.Author.Rules.{rules}
 use Rattle.wing.proofs.with_thrust.Goals as goal
 
 pub returns : goal.returns

@@ -1,5 +1,4 @@
 -- `airframe_block::Header::announced` meets its contract. Assumes nothing.
-use borrow.Author.Rules.{rules}
 use borrow.Author.Tests.{eq-eqb, le-ltb, lt-ltb, ne_eqb}
 use Rattle.airframe_block.specs.Block.{announced_by}
 use Rattle.airframe_block.proofs.Header.announced.Goals as goal

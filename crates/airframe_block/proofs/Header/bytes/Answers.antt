@@ -1,5 +1,4 @@
 -- `airframe_block::Header::bytes` meets its contract. Assumes nothing.
-use borrow.Author.Rules.{rules}
 use Rattle.airframe_block.specs.Block.{bytes_of}
 use Rattle.airframe_block.proofs.Header.bytes.Goals as goal
 

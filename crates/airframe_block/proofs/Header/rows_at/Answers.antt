@@ -4,7 +4,6 @@ use mathlib.Core.Path.{◌∙◌, ap, ap₂, sym}
 use native.Mathlib.Omega.{arith}
 use Rattle.airframe_block.specs.Block.{header_bytes, segment_bytes}
 use Rattle.airframe_block.proofs.Segments.{base-bytes, base-holds, few, lift-bytes, lift-holds, rows-at-is, wash-bytes, wash-holds}
-use borrow.Author.Rules.{rules}
 use Rattle.airframe_block.proofs.Header.rows_at.Goals as goal
 
 pub segment_bytes-base-requires : goal.segment_bytes-base-requires
