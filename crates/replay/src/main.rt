@@ -34,7 +34,7 @@ fn replay<R: Read>(
         differ: 0,
     };
     for _ in 0..u64::MAX {
-        s = source::with_line(file, buf, s)?;
+        s = source::with_line(file, buf, s);
         let at = s.at;
         let end = s.end;
         if at == end {
@@ -69,7 +69,7 @@ fn replay_flights<R: Read>(file: &mut R, buf: &mut [u8; PAGE_BYTES]) -> io::Resu
     let mut s = source::start();
     let mut w = flights::begin();
     for _ in 0..u64::MAX {
-        s = source::with_line(file, buf, s)?;
+        s = source::with_line(file, buf, s);
         let at = s.at;
         let end = s.end;
         if at == end {

@@ -1,9 +1,8 @@
 // A file read line by line through a buffer of fixed size.
-ghost use Rattle.std.specs.Prelude.{◌≡◌, ◌+◌, ◌≤◌, IfOk, length};
+ghost use Rattle.std.specs.Prelude.{◌≡◌, ◌+◌, ◌≤◌, length};
 ghost use Rattle.lines.specs.Page.{page_bytes};
 
 use lines::PAGE_BYTES;
-use std::io;
 use std::io::Read;
 
 // The bytes from `at` to `end` of the buffer are read and not yet taken.
@@ -49,43 +48,43 @@ fn to_front(buf: &mut [u8; PAGE_BYTES], at: usize, end: usize)
     }
 }
 
-// Reads on into the buffer from n until it is full or the file ends, and answers how many bytes came.
-fn read_behind<R: Read>(file: &mut R, buf: &mut [u8], n: usize) -> io::Result<usize>
+// Reads on into the buffer from n until it is full or the file ends, and answers how many bytes came. A read that fails ends the file.
+fn read_behind<R: Read>(file: &mut R, buf: &mut [u8], n: usize) -> usize
     requires { n ≤ length buf.old }
-    ensures { IfOk result (λ more. n + more ≤ length buf.old) }
+    ensures { n + result ≤ length buf.old }
 {
     let mut end = n;
     while end < buf.len() {
-        let more = file.read(&mut buf[end..])?;
+        let more = file.read(&mut buf[end..]).unwrap_or(0);
         if more == 0 {
             break;
         }
         end += more;
     }
-    Ok(end - n)
+    end - n
 }
 
-fn refill<R: Read>(file: &mut R, buf: &mut [u8; PAGE_BYTES], s: Source) -> io::Result<Source>
+fn refill<R: Read>(file: &mut R, buf: &mut [u8; PAGE_BYTES], s: Source) -> Source
     requires { (s.at ≤ s.end) × (s.end ≤ page_bytes) }
-    ensures { IfOk result (λ t. (t.at ≤ t.end) × (t.end ≤ page_bytes)) }
+    ensures { (result.at ≤ result.end) × (result.end ≤ page_bytes) }
 {
     to_front(buf, s.at, s.end);
     let n = s.end - s.at;
-    let more = read_behind(file, buf, n)?;
-    Ok(Source {
+    let more = read_behind(file, buf, n);
+    Source {
         at: 0,
         end: n + more,
-    })
+    }
 }
 
 // Sees to it that the whole next line is in the buffer, as far as it fits. Nothing from `at` to
 // `end`: the file has ended.
-pub fn with_line<R: Read>(file: &mut R, buf: &mut [u8; PAGE_BYTES], s: Source) -> io::Result<Source>
+pub fn with_line<R: Read>(file: &mut R, buf: &mut [u8; PAGE_BYTES], s: Source) -> Source
     requires { (s.at ≤ s.end) × (s.end ≤ page_bytes) }
-    ensures { IfOk result (λ t. (t.at ≤ t.end) × (t.end ≤ page_bytes)) }
+    ensures { (result.at ≤ result.end) × (result.end ≤ page_bytes) }
 {
     if line_end(buf, s.at, s.end) < s.end {
-        return Ok(s);
+        return s;
     }
     refill(file, buf, s)
 }
