@@ -11,13 +11,13 @@ ghost use Rattle.wing.specs.Promises as Promises;
 ghost use Rattle.wing.specs.Loads as LoadsOf;
 ghost use Rattle.wing.specs.Tick as TickOf;
 
-use air::ROW_COUNT;
+use air::DensityTable;
 use airframe::{Airframe, LagConstants};
 use answers::Answer;
 use body::{Body, Loads, MassProperties, Wrench};
 use fixed_wing::FixedWingModel;
 use flight::{Flight, Tick};
-use libm::POWER_COUNT;
+use libm::PowerTable;
 use motors::Motors;
 use surfaces::Surfaces;
 use tailsitter_model::Wash;
@@ -78,13 +78,11 @@ pub fn tick_accepted(
     f: Flight,
     t: Tick,
     lags: LagFactors,
-    powers: &[f32; POWER_COUNT],
-    densities: &[f32; ROW_COUNT],
+    powers: &PowerTable,
+    densities: &DensityTable,
 ) -> TickResult
     requires airframe_accepted { refused_place a ≡ 0 }
     requires lags_match { lags ≡ Promises.begin_of a t.step_s }
-    requires powers_table { powers.now ≡ powers_of_two }
-    requires densities_table { densities.now ≡ Density.densities }
     ensures { result ≡ TickOf.tick_of a f t }
 {
     if f.is_inside() {
@@ -99,14 +97,12 @@ pub fn tick_inside(
     f: Flight,
     t: Tick,
     lags: LagFactors,
-    powers: &[f32; POWER_COUNT],
-    densities: &[f32; ROW_COUNT],
+    powers: &PowerTable,
+    densities: &DensityTable,
 ) -> TickResult
     requires airframe_accepted { refused_place a ≡ 0 }
     requires state_inside { is_inside f ≡ true }
     requires lags_match { lags ≡ Promises.begin_of a t.step_s }
-    requires powers_table { powers.now ≡ powers_of_two }
-    requires densities_table { densities.now ≡ Density.densities }
     ensures { result ≡ TickOf.tick_of a f t }
 {
     if float::inside(t.step_s, 0.0009765625, 0.02) {
@@ -150,8 +146,7 @@ fn unless_departed(f: Flight, n: TickResult) -> TickResult
 }
 
 // The lag factors of a step.
-pub fn begin(a: Airframe, step_s: f32, powers: &[f32; POWER_COUNT]) -> LagFactors
-    requires { powers.now ≡ powers_of_two }
+pub fn begin(a: Airframe, step_s: f32, powers: &PowerTable) -> LagFactors
     ensures { result ≡ Promises.begin_of a step_s }
 {
     lag_factors_from(a.lag_constants(), step_s, powers)
@@ -161,9 +156,8 @@ pub fn begin(a: Airframe, step_s: f32, powers: &[f32; POWER_COUNT]) -> LagFactor
 pub fn lag_factors_from(
     constants: LagConstants,
     step_s: f32,
-    powers: &[f32; POWER_COUNT],
+    powers: &PowerTable,
 ) -> LagFactors
-    requires { powers.now ≡ powers_of_two }
     ensures { result ≡ Promises.lag_factors_from constants step_s }
 {
     LagFactors {
@@ -174,8 +168,7 @@ pub fn lag_factors_from(
     }
 }
 
-fn lift_factor(constants: LagConstants, step_s: f32, powers: &[f32; POWER_COUNT]) -> f32
-    requires { powers.now ≡ powers_of_two }
+fn lift_factor(constants: LagConstants, step_s: f32, powers: &PowerTable) -> f32
     ensures { result ≡ Promises.lift_factor constants step_s }
 {
     if constants.lift_present {
@@ -189,10 +182,9 @@ pub fn cached_lag_factors(
     a: Airframe,
     held: LagFactors,
     step_s: f32,
-    powers: &[f32; POWER_COUNT],
+    powers: &PowerTable,
 ) -> LagFactors
     requires held_match { Promises.FactorsMatchStep a held }
-    requires powers_table { powers.now ≡ powers_of_two }
     ensures value { result ≡ Promises.begin_of a step_s }
     ensures matches_step { Promises.FactorsMatchStep a result }
 {
@@ -208,12 +200,10 @@ fn next_with(
     f: Flight,
     t: Tick,
     lags: LagFactors,
-    powers: &[f32; POWER_COUNT],
-    densities: &[f32; ROW_COUNT],
+    powers: &PowerTable,
+    densities: &DensityTable,
 ) -> TickResult
     requires lags_match { lags ≡ Promises.begin_of a t.step_s }
-    requires powers_table { powers.now ≡ powers_of_two }
-    requires densities_table { densities.now ≡ Density.densities }
     ensures { result ≡ TickOf.next_of a f t }
 {
     let commands = t.motors;
@@ -245,8 +235,7 @@ fn next_with(
 }
 
 // The air's density at a state's height, which is its position down negated (02, 6).
-fn density_for(f: Flight, densities: &[f32; ROW_COUNT]) -> f32
-    requires { densities.now ≡ Density.densities }
+fn density_for(f: Flight, densities: &DensityTable) -> f32
     ensures { result ≡ TickOf.density_for f }
 {
     air::density_with(-f.down_m, densities)
@@ -297,9 +286,8 @@ pub fn loads(
     body: Body,
     wind_ned_mps: Vec3,
     density_kgpm3: f32,
-    powers: &[f32; POWER_COUNT],
+    powers: &PowerTable,
 ) -> Loaded
-    requires { powers.now ≡ powers_of_two }
     ensures { result ≡ LoadsOf.loads_of a motors surfaces lift_running body wind_ned_mps density_kgpm3 }
 {
     let m = a.model;
@@ -354,9 +342,8 @@ fn with_lift(
     lift_running: [f32; 8],
     air_mps: Vec3,
     wrench: Wrench,
-    powers: &[f32; POWER_COUNT],
+    powers: &PowerTable,
 ) -> Wrench
-    requires { powers.now ≡ powers_of_two }
     ensures { result ≡ LoadsOf.with_lift a lift_running air_mps wrench }
 {
     if a.lift_present {
