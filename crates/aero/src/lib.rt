@@ -5,7 +5,6 @@ ghost use Rattle.std.specs.Prelude.{◌≡◌};
 ghost use Rattle.aero.specs.Coefficients as Coefficients;
 ghost use Rattle.aero.specs.Wrench as Wrench;
 ghost use Rattle.book.specs.Numbers as Numbers;
-ghost use Rattle.libm.specs.Powers.{powers_of_two};
 
 use fixed_wing::{AeroCoefficients, FixedWingModel};
 use libm::PowerTable;

@@ -3,7 +3,6 @@
 
 ghost use Rattle.std.specs.Prelude.{◌≡◌};
 ghost use Rattle.lag.specs.Lag as Lag;
-ghost use Rattle.libm.specs.Powers.{powers_of_two};
 
 use libm::PowerTable;
 

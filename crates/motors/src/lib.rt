@@ -3,7 +3,6 @@
 #![tactic(auto)]
 
 ghost use Rattle.std.specs.Prelude.{◌≡◌};
-ghost use Rattle.libm.specs.Powers.{powers_of_two};
 ghost use Rattle.motors.specs.Motor as Motor;
 ghost use Rattle.motors.specs.Reflection as Reflection;
 
@@ -158,7 +157,6 @@ impl Motors {
         airspeed_mps: f32,
         powers: &PowerTable,
     ) -> MotorWrench
-        requires { powers.now ≡ powers_of_two }
         ensures { result ≡ Motor.wrench_with self falloff airspeed_mps }
     {
         let group = self.group;
@@ -189,7 +187,6 @@ impl Motors {
 
     // The same where nothing falls off. A loop of its own, so that neither group is copied for the other's (docs/DECISIONS.md, 85).
     pub fn wrench(self, powers: &PowerTable) -> MotorWrench
-        requires { powers.now ≡ powers_of_two }
         ensures { result ≡ Motor.wrench_without_falloff self }
     {
         let group = self.group;
@@ -234,7 +231,6 @@ impl MotorLayout {
         airspeed_mps: f32,
         powers: &PowerTable,
     ) -> f32
-        requires { powers.now ≡ powers_of_two }
         ensures { result ≡ Motor.thrust_of self (Motor.falloff_at falloff self airspeed_mps) scale running }
     {
         let max_thrust_n = self.max_thrust_n;
@@ -244,7 +240,6 @@ impl MotorLayout {
 
     // The same with a falloff share of 1.
     fn still_thrust_n(self, scale: f32, running: f32, powers: &PowerTable) -> f32
-        requires { powers.now ≡ powers_of_two }
         ensures { result ≡ Motor.thrust_of self Motor.no_falloff scale running }
     {
         let max_thrust_n = self.max_thrust_n;

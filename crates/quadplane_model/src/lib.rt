@@ -2,7 +2,6 @@
 #![tactic(auto)]
 
 ghost use Rattle.std.specs.Prelude.{◌≡◌};
-ghost use Rattle.libm.specs.Powers.{powers_of_two};
 ghost use Rattle.quadplane_model.specs.Lift as Lift;
 
 use body::Wrench;
@@ -51,7 +50,6 @@ impl LiftRotors {
     // Force and torque on body axes at the running values, `air_mps` being the air velocity on body axes: what of it passes along the
     // discs drags them.
     pub fn wrench(self, running: [f32; 8], air_mps: Vec3, powers: &PowerTable) -> Wrench
-        requires { powers.now ≡ powers_of_two }
         ensures { result ≡ Lift.lift_wrench self running air_mps }
     {
         let pull = self.at(running).wrench(powers);

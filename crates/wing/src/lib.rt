@@ -1,5 +1,4 @@
 // 01, module 8: the tick. Lags, thrust, wash, aerodynamics, lift rotors and the body's step, with the tests 6 to 10 around them.
-// `powers` is libm's table of powers of two and `densities` the air's table of densities, each made once a tick or once a run.
 #![tactic(auto)]
 
 ghost use Rattle.std.specs.Prelude.{true, ◌≡◌};
@@ -22,6 +21,25 @@ use motors::Motors;
 use surfaces::Surfaces;
 use tailsitter_model::Wash;
 use vector::Vec3;
+
+// The tables that a tick looks up, made once a tick or once a run.
+#[derive(Drop)]
+pub struct Tables {
+    pub powers: PowerTable,
+    pub densities: DensityTable,
+}
+
+impl Tables {
+    pub fn new() -> Self
+        ensures powers { result.powers.table ≡ powers_of_two }
+        ensures densities { result.densities.table ≡ Density.densities }
+    {
+        Tables {
+            powers: libm::powers_of_two(),
+            densities: air::densities(),
+        }
+    }
+}
 
 // Loads, and what a tick reports besides its answer.
 #[derive(Clone, Copy)]
@@ -64,10 +82,9 @@ pub fn tick(a: Airframe, f: Flight, t: Tick) -> TickResult
 {
     let place = a.refused_place();
     if place == 0 {
-        let powers = libm::powers_of_two();
-        let densities = air::densities();
-        let lags = begin(a, t.step_s, &powers);
-        return tick_accepted(a, f, t, lags, &powers, &densities);
+        let tables = Tables::new();
+        let lags = begin(a, t.step_s, &tables.powers);
+        return tick_accepted(a, f, t, lags, &tables);
     }
     refused(Answer::NumberOutOfRange(place), f)
 }
@@ -78,15 +95,14 @@ pub fn tick_accepted(
     f: Flight,
     t: Tick,
     lags: LagFactors,
-    powers: &PowerTable,
-    densities: &DensityTable,
+    tables: &Tables,
 ) -> TickResult
     requires airframe_accepted { refused_place a ≡ 0 }
     requires lags_match { lags ≡ Promises.begin_of a t.step_s }
     ensures { result ≡ TickOf.tick_of a f t }
 {
     if f.is_inside() {
-        return tick_inside(a, f, t, lags, powers, densities);
+        return tick_inside(a, f, t, lags, tables);
     }
     refused(Answer::StateOutside, f)
 }
@@ -97,8 +113,7 @@ pub fn tick_inside(
     f: Flight,
     t: Tick,
     lags: LagFactors,
-    powers: &PowerTable,
-    densities: &DensityTable,
+    tables: &Tables,
 ) -> TickResult
     requires airframe_accepted { refused_place a ≡ 0 }
     requires state_inside { is_inside f ≡ true }
@@ -107,7 +122,7 @@ pub fn tick_inside(
 {
     if float::inside(t.step_s, 0.0009765625, 0.02) {
         if wind_usable(t.wind_ned_mps) {
-            return unless_departed(f, next_with(a, f, t, lags, powers, densities));
+            return unless_departed(f, next_with(a, f, t, lags, tables));
         }
         return refused(Answer::WindUnusable, f);
     }
@@ -184,7 +199,7 @@ pub fn cached_lag_factors(
     step_s: f32,
     powers: &PowerTable,
 ) -> LagFactors
-    requires held_match { Promises.FactorsMatchStep a held }
+    requires { Promises.FactorsMatchStep a held }
     ensures value { result ≡ Promises.begin_of a step_s }
     ensures matches_step { Promises.FactorsMatchStep a result }
 {
@@ -200,10 +215,9 @@ fn next_with(
     f: Flight,
     t: Tick,
     lags: LagFactors,
-    powers: &PowerTable,
-    densities: &DensityTable,
+    tables: &Tables,
 ) -> TickResult
-    requires lags_match { lags ≡ Promises.begin_of a t.step_s }
+    requires { lags ≡ Promises.begin_of a t.step_s }
     ensures { result ≡ TickOf.next_of a f t }
 {
     let commands = t.motors;
@@ -218,8 +232,8 @@ fn next_with(
         lift_running,
         f.body(),
         t.wind_ned_mps,
-        density_for(f, densities),
-        powers,
+        density_for(f, &tables.densities),
+        &tables.powers,
     );
     let running = motors.running;
     let positions = surfaces.running;
