@@ -5,14 +5,13 @@ use lib.ListN.{length}
 use mathlib.Core.List.{List}
 use mathlib.Core.Path.{◌∙◌, ◌≡◌, ap, refl}
 use Rattle.airframe.specs.declared.Airframe.{Airframe}
-use Rattle.answers.specs.declared.Answer.{Answer}
-use Rattle.answers.specs.declared.Answer.TheVariants.{NumberOutOfRange, ReservedBit, WrongLength}
+use Rattle.answers.specs.declared.Refusal.{Refusal}
+use Rattle.answers.specs.declared.Refusal.TheVariants.{NumberOutOfRange, ReservedBit, WrongLength}
 use Rattle.float.specs.Bytes.{byte_at}
-use Rattle.airframe_block.specs.Block.{accepted_airframe, announced_by, header_of, read_airframe_of, read_as, read_body, read_by}
+use Rattle.airframe_block.specs.Block.{Announced, accepted_airframe, announced_by, header_of, read_airframe_of, read_as, read_body, read_by}
 use Rattle.airframe_block.specs.Block.{read_rows, refused_airframe, reserved_row, rows_at, rows_from, tested_airframe}
 use Rattle.airframe_block.specs.declared.AirframeRead.{AirframeRead}
-use Rattle.airframe_block.specs.declared.Announced.{Announced}
-use Rattle.airframe_block.specs.declared.Announced.TheVariants.{Bytes, Refused}
+use Rattle.std.specs.Prelude.{Ok, Err}
 use Rattle.airframe_block.specs.declared.Header.{Header}
 
 -- two bytes or more: by the header
@@ -26,15 +25,15 @@ unfolding read_by
 by_said s h x r e g = g ∙ ap (read_as s h) e
 
 -- a length that is not the one announced, and one that is
-pub length-refused : (s : List ℕ) (h : Header) (n : ℕ) → (length s ≡ n → ⊥) → refused_airframe WrongLength ≡ read_as s h (Bytes n)
+pub length-refused : (s : List ℕ) (h : Header) (n : ℕ) → (length s ≡ n → ⊥) → refused_airframe WrongLength ≡ read_as s h (Ok n)
 unfolding read_as
 length-refused s h n e = simp (ne_eqb (length s) n e)
 
-pub length-read : (s : List ℕ) (h : Header) (n : ℕ) → length s ≡ n → read_body s h ≡ read_as s h (Bytes n)
+pub length-read : (s : List ℕ) (h : Header) (n : ℕ) → length s ≡ n → read_body s h ≡ read_as s h (Ok n)
 unfolding read_as
 length-read s h n e = simp (eq-eqb (length s) n e)
 
-pub header_refused : (s : List ℕ) (h : Header) (x : Answer) → refused_airframe x ≡ read_as s h (Refused x)
+pub header_refused : (s : List ℕ) (h : Header) (x : Refusal) → refused_airframe x ≡ read_as s h (Err x)
 unfolding read_as
 header_refused s h x = refl
 

@@ -15,29 +15,26 @@ use Rattle.airframe.specs.Acceptance.{lowest_place, refused_place}
 use Rattle.airframe.specs.FromNumbers.{lift_constant, lift_drag, lift_layout_of, wash_from, zero_airframe}
 use Rattle.airframe.specs.Numbers.{zero_numbers}
 use Rattle.airframe.specs.declared.Airframe.{Airframe}
-use Rattle.answers.specs.declared.Answer.{Answer}
-use Rattle.answers.specs.declared.Answer.TheVariants.{Done, NumberOutOfRange, ReservedBit, TooManyRows, WrongFalloff, WrongLength, WrongVersion}
+use Rattle.answers.specs.declared.Refusal.{Refusal}
+use Rattle.answers.specs.declared.Refusal.TheVariants.{NumberOutOfRange, ReservedBit, TooManyRows, WrongFalloff, WrongLength, WrongVersion}
+use Rattle.answers.specs.Answers.{done}
 use Rattle.float.proofs.Tests.{either}
 use Rattle.float.specs.Bytes.{byte_at}
 use Rattle.float.specs.Notation.{zero}
 use Rattle.mixers.specs.Rows.{most_rows}
 use Rattle.mixers.specs.declared.Rows.{Rows}
-use Rattle.airframe_block.specs.Block.{accepted_airframe, airframe_by, announced_by, bad_row, bytes_of, header_of, numbers_from}
+use Rattle.airframe_block.specs.Block.{Announced, accepted_airframe, airframe_by, announced_by, bad_row, bytes_of, header_of, numbers_from}
 use Rattle.airframe_block.specs.Block.{tested_block, put_numbers, put_segment, put_segments, read_airframe_of, read_as, read_body}
 use Rattle.airframe_block.specs.Block.{read_by, read_rows, refused_airframe, reserved_row, rows_at, rows_from, segments_of}
 use Rattle.airframe_block.specs.Block.{tested_airframe}
 use Rattle.airframe_block.specs.declared.AirframeRead.{AirframeRead}
-use Rattle.airframe_block.specs.declared.Announced.{Announced}
-use Rattle.airframe_block.specs.declared.Announced.TheVariants.{Bytes, Refused}
+use Rattle.std.specs.Prelude.{Ok, Err}
 use Rattle.airframe_block.specs.declared.Header.{Header}
 
 -- a read is a refusal or the acceptance of an airframe that no place refuses
 pub data Outcome : AirframeRead → Type 0 where
-  refusal : (a : Answer) → (a ≡ Done → ⊥) → Outcome (refused_airframe a)
+  refusal : (a : Refusal) → Outcome (refused_airframe a)
   acceptance : (a : Airframe) → refused_place a ≡ 0 → Outcome (accepted_airframe a)
-
-no-reply : (p : ℕ) → NumberOutOfRange p ≡ Done → ⊥
-no-reply p q = let z : ◌≡◌ {A = ℕ} 0 1 = cc in omega arith
 
 tested-outcome : (a : Airframe) (p : ℕ) → (p ≡ 0 → refused_place a ≡ 0) → Outcome (tested_airframe a p)
 unfolding tested_airframe
@@ -45,26 +42,11 @@ tested-outcome a p h = go (eqb p 0) refl
   where
     go : (t : Bool) → eqb p 0 ≡ t → Outcome (cond t (accepted_airframe a) (refused_airframe (NumberOutOfRange p)))
     go true e = acceptance a (h (eqb-true p 0 e))
-    go false e = refusal (NumberOutOfRange p) (no-reply p)
+    go false e = refusal (NumberOutOfRange p)
 
 tested-block-outcome : (a : Airframe) (rows : Rows) → Outcome (tested_block a rows)
 unfolding tested_block
 tested-block-outcome a rows = tested-outcome a (lowest_place (eqb (bad_row rows) 0) a) (rows_apart a (eqb (bad_row rows) 0))
-
-not-length : WrongLength ≡ Done → ⊥
-not-length q = let z : ◌≡◌ {A = ℕ} 0 1 = cc in omega arith
-
-not-version : WrongVersion ≡ Done → ⊥
-not-version q = let z : ◌≡◌ {A = ℕ} 0 1 = cc in omega arith
-
-not-falloff : WrongFalloff ≡ Done → ⊥
-not-falloff q = let z : ◌≡◌ {A = ℕ} 0 1 = cc in omega arith
-
-not-reserved : ReservedBit ≡ Done → ⊥
-not-reserved q = let z : ◌≡◌ {A = ℕ} 0 1 = cc in omega arith
-
-not-rows : TooManyRows ≡ Done → ⊥
-not-rows q = let z : ◌≡◌ {A = ℕ} 0 1 = cc in omega arith
 
 -- the tests from each on
 rows-outcome : (s : List ℕ) (h : Header) (rows : Rows) → Outcome (read_rows s h rows)
@@ -75,45 +57,45 @@ body-outcome : (s : List ℕ) (h : Header) → Outcome (read_body s h)
 unfolding read_body
 body-outcome s h =
     either Outcome (eqb (reserved_row s h.lift (rows_at h) h.rows) 0) (rows-outcome s h (rows_from s (rows_at h) h.rows))
-    (refusal ReservedBit not-reserved)
+    (refusal ReservedBit)
 
-said-outcome : (h : Header) (n : ℕ) (s : List ℕ) → Outcome (read_as s h (Bytes n))
+said-outcome : (h : Header) (n : ℕ) (s : List ℕ) → Outcome (read_as s h (Ok n))
 unfolding read_as
-said-outcome h n s = either Outcome (not (eqb (length s) n)) (refusal WrongLength not-length) (body-outcome s h)
+said-outcome h n s = either Outcome (not (eqb (length s) n)) (refusal WrongLength) (body-outcome s h)
 
-refused-outcome : (s : List ℕ) (h : Header) (x : Answer) → (x ≡ Done → ⊥) → Outcome (read_as s h (Refused x))
+refused-outcome : (s : List ℕ) (h : Header) (x : Refusal) → Outcome (read_as s h (Err x))
 unfolding read_as
-refused-outcome s h x n = refusal x n
+refused-outcome s h x = refusal x
 
 by-outcome : (s : List ℕ) (h : Header) → Outcome (read_by s h)
 unfolding read_by announced_by
 by-outcome s h =
     let Reads : Announced → Type 0 = λ x. Outcome (read_as s h x) in
-    either Reads (not (eqb h.version 1)) (refused-outcome s h WrongVersion not-version)
-    (either Reads (ltb 1 h.kind) (refused-outcome s h WrongFalloff not-falloff)
-    (either Reads (not (eqb h.reserved 0)) (refused-outcome s h ReservedBit not-reserved)
-    (either Reads (ltb most_rows h.rows) (refused-outcome s h TooManyRows not-rows) (said-outcome h (bytes_of h) s))))
+    either Reads (not (eqb h.version 1)) (refused-outcome s h WrongVersion)
+    (either Reads (ltb 1 h.kind) (refused-outcome s h WrongFalloff)
+    (either Reads (not (eqb h.reserved 0)) (refused-outcome s h ReservedBit)
+    (either Reads (ltb most_rows h.rows) (refused-outcome s h TooManyRows) (said-outcome h (bytes_of h) s))))
 
 pub read-outcome : (s : List ℕ) → Outcome (read_airframe_of s)
 unfolding read_airframe_of
-read-outcome s = either Outcome (ltb (length s) 2) (refusal WrongLength not-length) (by-outcome s (header_of (byte_at s 0) (byte_at s 1)))
+read-outcome s = either Outcome (ltb (length s) 2) (refusal WrongLength) (by-outcome s (header_of (byte_at s 0) (byte_at s 1)))
 
-accepted-of : (r : AirframeRead) → Outcome r → r.answer ≡ Done → refused_place r.airframe ≡ 0
+accepted-of : (r : AirframeRead) → Outcome r → r.answer ≡ done → refused_place r.airframe ≡ 0
 unfolding refused_airframe accepted_airframe
-accepted-of r (refusal a n) e = absurd (n e)
+accepted-of r (refusal a) e = let z : ◌≡◌ {A = ℕ} 0 1 = cc in absurd (omega arith)
 accepted-of r (acceptance a p) e = p
 
 -- an airframe that a read accepts is accepted by the tick
-pub accepted-is-accepted : (s : List ℕ) → (read_airframe_of s).answer ≡ Done → refused_place (read_airframe_of s).airframe ≡ 0
+pub accepted-is-accepted : (s : List ℕ) → (read_airframe_of s).answer ≡ done → refused_place (read_airframe_of s).airframe ≡ 0
 accepted-is-accepted s e = accepted-of (read_airframe_of s) (read-outcome s) e
 
-refused-of : (r : AirframeRead) → Outcome r → (r.answer ≡ Done → ⊥) → r.airframe ≡ zero_airframe
+refused-of : (r : AirframeRead) → Outcome r → (r.answer ≡ done → ⊥) → r.airframe ≡ zero_airframe
 unfolding refused_airframe accepted_airframe
-refused-of r (refusal a n) e = refl
+refused-of r (refusal a) e = refl
 refused-of r (acceptance a p) e = absurd (e refl)
 
 -- a refused read gives the airframe of zeros
-pub refused-is-zero : (s : List ℕ) → ((read_airframe_of s).answer ≡ Done → ⊥) → (read_airframe_of s).airframe ≡ zero_airframe
+pub refused-is-zero : (s : List ℕ) → ((read_airframe_of s).answer ≡ done → ⊥) → (read_airframe_of s).airframe ≡ zero_airframe
 refused-is-zero s e = refused-of (read_airframe_of s) (read-outcome s) e
 
 -- the numbers of a wash that is not there are zeros (01, module 5)

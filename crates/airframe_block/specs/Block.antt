@@ -1,16 +1,17 @@
 -- The airframe block (01, "Blocks", "Airframe"; 02, 5): what its bits and bytes say, and what reading it gives. A block's bytes are a
 -- list of numbers below 256. Definitions only.
 use Prim.Native.Nat as Nat
-use Rattle.std.specs.Prelude.{◌%◌, ◌*◌, ◌+◌, ◌/◌, suc, ℕ, eqb, ltb, Float, get_or, length, replicate, set, Bool, cond, false, not, true, List, [], ◌∷◌}
+use Rattle.std.specs.Prelude.{Ok, Err, Result, ◌%◌, ◌*◌, ◌+◌, ◌/◌, suc, ℕ, eqb, ltb, Float, get_or, length, replicate, set, Bool, cond, false, not, true, List, [], ◌∷◌}
 use Rattle.std.specs.Float.Ieee.{eq}
 use Rattle.airframe.specs.Acceptance.{lowest_place}
 use Rattle.airframe.specs.FromNumbers.{airframe_of, lift_constant, lift_layout_of, motor_constant, motor_layout_of, zero_airframe}
 use Rattle.airframe.specs.Numbers.{base_segment, lift_segment, numbers_count, wash_segment, zero_numbers}
 use Rattle.airframe.specs.declared.Airframe.{Airframe}
 use Rattle.airframe.specs.declared.numbers.Segment.{Segment}
-use Rattle.answers.specs.declared.Answer.{Answer}
-use Rattle.answers.specs.declared.Answer.TheVariants.{Done, NumberOutOfRange, ReservedBit}
-use Rattle.answers.specs.declared.Answer.TheVariants.{TooManyRows, WrongFalloff, WrongLength, WrongVersion}
+use Rattle.answers.specs.declared.Refusal.{Refusal}
+use Rattle.answers.specs.declared.Refusal.TheVariants.{NumberOutOfRange, ReservedBit}
+use Rattle.answers.specs.Answers.{done}
+use Rattle.answers.specs.declared.Refusal.TheVariants.{TooManyRows, WrongFalloff, WrongLength, WrongVersion}
 use Rattle.float.specs.Bytes.{byte_at}
 use Rattle.float.specs.Interval.{inside}
 use Rattle.float.specs.Notation.{zero, rounded, abs}
@@ -24,8 +25,6 @@ use Rattle.motors.specs.Motor.{group_of, lift_group_of}
 use Rattle.block_parts.specs.Parts.{float_at, number_bytes}
 use Rattle.surfaces.specs.Surface.{surfaces_of}
 use Rattle.airframe_block.specs.declared.AirframeRead.{AirframeRead}
-use Rattle.airframe_block.specs.declared.Announced.{Announced}
-use Rattle.airframe_block.specs.declared.Announced.TheVariants.{Bytes, Refused}
 use Rattle.airframe_block.specs.declared.Header.{Header}
 
 -- ---- lengths in bytes
@@ -71,13 +70,17 @@ rows_at h = segments_end header_bytes (segments_of h)
 unfoldable pub bytes_of : Header → ℕ
 bytes_of h = rows_at h + row_bytes * h.rows
 
+-- how many bytes a block has, or why it is refused whatever follows its header
+abbrev pub Announced : Type 0
+Announced = Result ℕ Refusal
+
 -- what the header announces: version (2), falloff kind (3), reserved bits (4), row count (5), else the block's length
 unfoldable pub announced_by : Header → Announced
 announced_by h =
-    cond (not (eqb h.version 1)) (Refused WrongVersion)
-    (cond (ltb 1 h.kind) (Refused WrongFalloff)
-    (cond (not (eqb h.reserved 0)) (Refused ReservedBit)
-    (cond (ltb most_rows h.rows) (Refused TooManyRows) (Bytes (bytes_of h)))))
+    cond (not (eqb h.version 1)) (Err WrongVersion)
+    (cond (ltb 1 h.kind) (Err WrongFalloff)
+    (cond (not (eqb h.reserved 0)) (Err ReservedBit)
+    (cond (ltb most_rows h.rows) (Err TooManyRows) (Ok (bytes_of h)))))
 
 abbrev pub announced_of : ℕ → ℕ → Announced
 announced_of a b = announced_by (header_of a b)
@@ -159,11 +162,11 @@ airframe_by xs h rows =
 -- ---- reading (01, "What the bench replies", the order of an airframe)
 
 -- a refused read gives the zero airframe
-unfoldable pub refused_airframe : Answer → AirframeRead
-refused_airframe a = record { answer = a; airframe = zero_airframe }
+unfoldable pub refused_airframe : Refusal → AirframeRead
+refused_airframe a = record { answer = Err a; airframe = zero_airframe }
 
 unfoldable pub accepted_airframe : Airframe → AirframeRead
-accepted_airframe a = record { answer = Done; airframe = a }
+accepted_airframe a = record { answer = done; airframe = a }
 
 -- 6 by lowest place
 unfoldable pub tested_airframe : Airframe → ℕ → AirframeRead
@@ -184,8 +187,8 @@ read_body s h =
 
 -- refused by its header (2 to 5), total length (1), then the rest
 unfoldable pub read_as : List ℕ → Header → Announced → AirframeRead
-read_as s h (Refused answer) = refused_airframe answer
-read_as s h (Bytes n) = cond (not (eqb (length s) n)) (refused_airframe WrongLength) (read_body s h)
+read_as s h (Err answer) = refused_airframe answer
+read_as s h (Ok n) = cond (not (eqb (length s) n)) (refused_airframe WrongLength) (read_body s h)
 
 unfoldable pub read_by : List ℕ → Header → AirframeRead
 read_by s h = read_as s h (announced_by h)

@@ -8,7 +8,7 @@ ghost use Rattle.block_parts.specs.Parts.{number_bytes};
 ghost use Rattle.airframe_block.specs.Block as Block;
 
 use airframe::{Airframe, LIFT_TIME_CONSTANT, MOTOR_TIME_CONSTANT, NUMBERS, Segment};
-use answers::Answer;
+use answers::{Answer, Refusal};
 use mixers::{MOST_ROWS, MixRow, Rows, Slot};
 
 // What reading an airframe block gives: the reply, and the airframe, all zeros where it is refused.
@@ -25,13 +25,6 @@ const ROW_BYTES: usize = 13;
 
 // The longest block that a header can announce: its five bits of the row count go up to 31.
 pub const MOST_BYTES: usize = HEADER_BYTES + block_parts::NUMBER_BYTES * NUMBERS + ROW_BYTES * 31;
-
-// What a block's first two bytes announce: how many bytes it has, or why it is refused whatever follows.
-#[derive(Clone, Copy)]
-pub enum Announced {
-    Bytes(usize),
-    Refused(Answer),
-}
 
 // What the block's two first bytes say.
 #[derive(Clone, Copy)]
@@ -100,34 +93,32 @@ impl Header {
         start + ROW_BYTES * self.rows
     }
 
-    // What it announces.
-    fn announced(self) -> Announced
+    // How many bytes the block has, or why it is refused whatever follows.
+    fn announced(self) -> Result<usize, Refusal>
         requires { self.rows ≤ 31 }
         ensures { result ≡ Block.announced_by self }
     {
         if self.version != 1 {
-            return Announced::Refused(Answer::WrongVersion);
+            return Err(Refusal::WrongVersion);
         }
         if self.kind > 1 {
-            return Announced::Refused(Answer::WrongFalloff);
+            return Err(Refusal::WrongFalloff);
         }
         if self.reserved != 0 {
-            return Announced::Refused(Answer::ReservedBit);
+            return Err(Refusal::ReservedBit);
         }
         if self.rows > MOST_ROWS {
-            return Announced::Refused(Answer::TooManyRows);
+            return Err(Refusal::TooManyRows);
         }
-        let n = self.bytes();
-        Announced::Bytes(n)
+        Ok(self.bytes())
     }
 }
 
-// What the block announces whose first two bytes are a and b.
-pub fn announced_of(a: u8, b: u8) -> Announced
+// How many bytes the block has whose first two are a and b, or why it is refused whatever follows.
+pub fn announced_of(a: u8, b: u8) -> Result<usize, Refusal>
     ensures { result ≡ Block.announced_of a b }
 {
-    let h = header_of(a, b);
-    h.announced()
+    header_of(a, b).announced()
 }
 
 // The numbers of a segment that is there, from byte `at` on, into xs.
@@ -318,11 +309,13 @@ fn airframe_by(xs: [f32; NUMBERS], h: Header, rows: Rows) -> Airframe
 }
 
 // A refused block: the reply, and an airframe of zeros.
-fn refused(answer: Answer) -> AirframeRead
-    ensures { result ≡ Block.refused_airframe answer }
+fn refused(refusal: Refusal) -> AirframeRead
+    ensures { result ≡ Block.refused_airframe refusal }
 {
-    let airframe = Airframe::zero();
-    AirframeRead { answer, airframe }
+    AirframeRead {
+        answer: Err(refusal),
+        airframe: Airframe::zero(),
+    }
 }
 
 // The airframe, refused where a number is out of range.
@@ -331,10 +324,10 @@ fn tested(airframe: Airframe, rows: Rows) -> AirframeRead
 {
     let p = airframe.lowest_place(bad_row(rows) == 0);
     if p != 0 {
-        return refused(Answer::NumberOutOfRange(p));
+        return refused(Refusal::NumberOutOfRange(p));
     }
     AirframeRead {
-        answer: Answer::Done,
+        answer: Ok(()),
         airframe,
     }
 }
@@ -348,7 +341,7 @@ fn read_body(s: &[u8], h: Header) -> AirframeRead
     let start = h.rows_at();
     let count = h.rows;
     if reserved_row(s, h.lift, start, count) != 0 {
-        return refused(Answer::ReservedBit);
+        return refused(Refusal::ReservedBit);
     }
     let rows = read_rows(s, start, count);
     let xs = read_numbers(s, h);
@@ -361,15 +354,14 @@ pub fn read_airframe(s: &[u8]) -> AirframeRead
 {
     let n = s.len();
     if n < HEADER_BYTES {
-        return refused(Answer::WrongLength);
+        return refused(Refusal::WrongLength);
     }
     let h = header_of(s[0], s[1]);
-    let said = h.announced();
-    match said {
-        Announced::Refused(answer) => refused(answer),
-        Announced::Bytes(to) => {
+    match h.announced() {
+        Err(refusal) => refused(refusal),
+        Ok(to) => {
             if n != to {
-                return refused(Answer::WrongLength);
+                return refused(Refusal::WrongLength);
             }
             read_body(s, h)
         }

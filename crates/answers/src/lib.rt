@@ -4,9 +4,9 @@
 ghost use Rattle.std.specs.Prelude.{◌≡◌};
 ghost use Rattle.answers.specs.Answers as Answers;
 
-#[derive(Clone, Copy)]
-pub enum Answer {
-    Done,
+// Why a call, a block or a tick is refused.
+#[derive(Clone, Copy, Debug, PartialEq, Eq)]
+pub enum Refusal {
     WrongLength,
     WrongVersion,
     WrongFalloff,
@@ -20,49 +20,55 @@ pub enum Answer {
     WindUnusable,
 }
 
-impl Answer {
-    // The reply's number.
+// A reply: done, or refused.
+pub type Answer = Result<(), Refusal>;
+
+impl Refusal {
+    // The refusal's number.
     pub fn number(self) -> u32
-        ensures { result ≡ Answers.number_of self }
+        ensures { result ≡ Answers.refusal_number self }
     {
         match self {
-            Answer::Done => 0,
-            Answer::WrongLength => 1,
-            Answer::WrongVersion => 2,
-            Answer::WrongFalloff => 3,
-            Answer::ReservedBit => 4,
-            Answer::TooManyRows => 5,
-            Answer::NumberOutOfRange(_) => 6,
-            Answer::StateOutside => 7,
-            Answer::StepOutside => 8,
-            Answer::Departure => 9,
-            Answer::WindUnusable => 10,
+            Refusal::WrongLength => 1,
+            Refusal::WrongVersion => 2,
+            Refusal::WrongFalloff => 3,
+            Refusal::ReservedBit => 4,
+            Refusal::TooManyRows => 5,
+            Refusal::NumberOutOfRange(_) => 6,
+            Refusal::StateOutside => 7,
+            Refusal::StepOutside => 8,
+            Refusal::Departure => 9,
+            Refusal::WindUnusable => 10,
         }
     }
 
-    // Whether nothing was refused.
-    pub fn is_done(self) -> bool
-        ensures { result ≡ Answers.is_done self }
-    {
-        self.number() == 0
-    }
-
-    // The place of an airframe number that is out of range; 0 for every other reply.
+    // The place of an airframe number that is out of range; 0 for every other refusal.
     pub fn place(self) -> u32
-        ensures { result ≡ Answers.place_of self }
+        ensures { result ≡ Answers.refusal_place self }
     {
         match self {
-            Answer::NumberOutOfRange(place) => place,
-            Answer::Done => 0,
-            Answer::WrongLength => 0,
-            Answer::WrongVersion => 0,
-            Answer::WrongFalloff => 0,
-            Answer::ReservedBit => 0,
-            Answer::TooManyRows => 0,
-            Answer::StateOutside => 0,
-            Answer::StepOutside => 0,
-            Answer::Departure => 0,
-            Answer::WindUnusable => 0,
+            Refusal::NumberOutOfRange(place) => place,
+            _ => 0,
         }
+    }
+}
+
+// The reply's number, 0 where nothing was refused.
+pub fn number(answer: Answer) -> u32
+    ensures { result ≡ Answers.number_of answer }
+{
+    match answer {
+        Ok(()) => 0,
+        Err(refusal) => refusal.number(),
+    }
+}
+
+// The reply's place, 0 where nothing was refused.
+pub fn place(answer: Answer) -> u32
+    ensures { result ≡ Answers.place_of answer }
+{
+    match answer {
+        Ok(()) => 0,
+        Err(refusal) => refusal.place(),
     }
 }

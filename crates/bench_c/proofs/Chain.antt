@@ -1,7 +1,7 @@
 -- Tick calls of the library, one after another, each fed the array that the last one left: what they tell and leave is what the
 -- definition's calls do, so that demand 3 speaks of calls that were made. Assumes nothing.
 use Prim.Native.Nat.{◌%◌, ◌*◌, ◌+◌, ◌/◌, ◌<◌, ℕ}
-use borrow.Author.Tests.{eq-eqb, ltb-true}
+use borrow.Author.Tests.{eq-eqb, eqb-true, ltb-true}
 use denote.Floats.{is_true}
 use lib.Ieee.{Float}
 use lib.ListN.{length}
@@ -11,9 +11,10 @@ use mathlib.Core.Path.{◌∙◌, ◌≡◌, ap, refl}
 use native.Mathlib.Omega.{arith}
 use Rattle.airframe.specs.declared.Airframe.{Airframe}
 use Rattle.airframe_block.specs.Block.{read_airframe_of}
-use Rattle.answers.proofs.Numbers.{number_small}
+use Rattle.answers.proofs.Numbers.{number-done, number_small, refused-not-done}
 use Rattle.answers.specs.Answers.{is_done, number_of, place_of}
-use Rattle.answers.specs.declared.Answer.{Answer}
+use Rattle.answers.specs.Answers.{Answer}
+use Rattle.answers.specs.declared.Refusal.{Refusal}
 use Rattle.arrays.proofs.RoundTrip.{flight-again}
 use Rattle.arrays.specs.Airframe.{airframe_in, airframe_numbers_count}
 use Rattle.arrays.specs.Flight.{flight_in, slots_in, tick_in}
@@ -22,7 +23,6 @@ use Rattle.flight.specs.declared.Tick.{Tick}
 use Rattle.float.proofs.Tests.{either}
 use Rattle.motors.specs.Motor.{spin_of}
 use Rattle.quadplane_model.specs.Lift.{rotors_spun}
-use Rattle.ordered.proofs.Ordered.{some-eqb}
 use Rattle.run.proofs.Calls.{OneCall, chain-flown}
 use Rattle.run.specs.Calls.{Chain}
 use Rattle.run.specs.Mirrored.{ByDefinition}
@@ -32,15 +32,15 @@ use Rattle.wing.proofs.Passed.{tick-cases}
 use Rattle.wing.specs.Tick.{lift_spun, lifted_of, moved_of, next_of, next_with, refused_of, spun_of, stepped_of, tick_of}
 use Rattle.wing.specs.declared.TickResult.{TickResult}
 use Rattle.bench_c.specs.Library.{ArrayCall, TickOutcome, reply_of, report_numbers, state_after_tick, tested, tick, tick_lengths}
-use Rattle.bench_c.specs.Library.{tick_prepared, ticked_by, told_in}
+use Rattle.bench_c.specs.Library.{tick_prepared, ticked_by, ticked_unless, told_in}
 
 -- ---- what a tick leaves in the array is the state it hands back
 abbrev Left : List Float → TickResult → Type 0
 Left state k = flight_in (state_after_tick state k) ≡ k.flight
 
-refused-left : (state : List Float) (x : Answer) → is_done x ≡ false → Left state (refused_of x (flight_in state))
+refused-left : (state : List Float) (x : Refusal) → Left state (refused_of x (flight_in state))
 unfolding state_after_tick refused_of
-refused-left state x e = rw e refl
+refused-left state x = rw (refused-not-done x) refl
 
 -- the lift rotors that spin, or not, are 8 again
 lifted-eight : (a : Airframe) (f : Flight) (t : Tick) → length f.lift_motors ≡ 8 → length (lifted_of a f t) ≡ 8
@@ -62,7 +62,7 @@ rotors-are-eight state = refl
 
 tick-left : (a : Airframe) (state : List Float) (t : Tick) → Left state (tick_of a (flight_in state) t)
 tick-left a state t =
-    tick-cases (Left state) a (flight_in state) t (λ x n. refused-left state x (some-eqb (number_of x) n))
+    tick-cases (Left state) a (flight_in state) t (λ x. refused-left state x)
     (λ p. next-left a state (flight_in state) t (scales-are-eight state) (rotors-are-eight state))
 
 -- ---- what a reply tells
@@ -114,8 +114,8 @@ array-flown a call h r = chain-flown a flight_in tick_in told_in (ArrayCall call
 
 -- with the airframe as a block that is accepted, and as its array
 block-ticks : (block : List ℕ) → is_done (read_airframe_of block).answer ≡ true → TicksWith (read_airframe_of block).airframe (tick block)
-unfolding tick ticked_by
-block-ticks block d state t report l = rw (l, d) refl
+unfolding tick ticked_by ticked_unless
+block-ticks block d state t report l = rw (l, number-done _ (eqb-true _ _ d)) refl
 
 prepared-ticks : (airframe : List Float) → length airframe ≡ airframe_numbers_count → TicksWith (airframe_in airframe) (tick_prepared airframe)
 unfolding tick_prepared

@@ -15,8 +15,9 @@ use Rattle.airframe_block.specs.Block.{read_airframe_of}
 use Rattle.airframe_block.specs.declared.AirframeRead.{AirframeRead}
 use Rattle.answers.proofs.Numbers.{number-done}
 use Rattle.answers.specs.Answers.{is_done, number_of, place_of}
-use Rattle.answers.specs.declared.Answer.{Answer}
-use Rattle.answers.specs.declared.Answer.TheVariants.{WrongLength}
+use Rattle.answers.specs.Answers.{Answer}
+use Rattle.std.specs.Prelude.{Err}
+use Rattle.answers.specs.declared.Refusal.TheVariants.{WrongLength}
 use Rattle.arrays.specs.Flight.{flight_in, flight_numbers, quat_in, slots_in, vec_in}
 use Rattle.flight.proofs.Mirror.{reflect-flight}
 use Rattle.flight.specs.Reflection.{FlightRel, reflect_flight}
@@ -50,7 +51,7 @@ number-none x e = go (number_of x) (place_of x) e
 
 -- ---- a run that answers 0 is of a block that was read
 ran-of : (w : Bool) (x : AirframeRead) (f : Flight) (r : RunResult)
-    → number_of (cond w (cond (is_done x.answer) r (ended x.answer f 0)) (ended WrongLength f 0)).answer ≡ 0 → number_of x.answer ≡ 0
+    → number_of (cond w (cond (is_done x.answer) r (ended x.answer f 0)) (ended (Err WrongLength) f 0)).answer ≡ 0 → number_of x.answer ≡ 0
 unfolding ended
 ran-of true x f r e = go (is_done x.answer) refl e
   where

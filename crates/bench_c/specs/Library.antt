@@ -1,14 +1,14 @@
 -- What each call of the library gives back (include/bench.h), on bytes and on arrays of numbers (arrays/specs): one of the bench's
 -- calls, after the lengths of the arrays. An array of another length gets 1, and nothing is written. Definitions only.
-use Rattle.std.specs.Prelude.{◌%◌, ◌*◌, ◌+◌, ◌/◌, ℕ, eqb, Float, get_or, length, Bool, ◌&&◌, cond, true, List, [], ◌∷◌, map, ◌≡◌}
+use Rattle.std.specs.Prelude.{Ok, Err, ◌%◌, ◌*◌, ◌+◌, ◌/◌, ℕ, eqb, Float, get_or, length, Bool, ◌&&◌, cond, true, List, [], ◌∷◌, map, ◌≡◌}
 use Rattle.std.specs.Float.{nan}
 use Rattle.airframe.specs.Reflection.{AirframeRel, reflect_airframe}
 use Rattle.airframe.specs.declared.Airframe.{Airframe}
 use Rattle.airframe_block.specs.Block.{read_airframe_of}
 use Rattle.airframe_block.specs.declared.AirframeRead.{AirframeRead}
 use Rattle.answers.specs.Answers.{is_done, number_of, place_of}
-use Rattle.answers.specs.declared.Answer.{Answer}
-use Rattle.answers.specs.declared.Answer.TheVariants.{WrongLength}
+use Rattle.answers.specs.Answers.{Answer}
+use Rattle.answers.specs.declared.Refusal.TheVariants.{WrongLength}
 use Rattle.flight.specs.Reflection.{FlightRel, TickRel, reflect_flight}
 use Rattle.flight.specs.declared.Flight.{Flight}
 use Rattle.flight.specs.declared.Tick.{Tick}
@@ -117,9 +117,14 @@ tested state k = record {
 abbrev pub untested : List Float → List Float → TickOutcome
 untested state report = record { reply = wrong_length; state = state; report = report }
 
+-- a tick with an airframe that was read, unless reading it was refused
+unfoldable pub ticked_unless : Answer → Airframe → Flight → Tick → TickResult
+ticked_unless (Ok u) a f t = tick_of a f t
+ticked_unless (Err refusal) a f t = refused_of refusal f
+
 -- the airframe of a block that is refused refuses the tick, with the block's own answer
 unfoldable pub ticked_by : AirframeRead → Flight → Tick → TickResult
-ticked_by x f t = cond (is_done x.answer) (tick_of x.airframe f t) (refused_of x.answer f)
+ticked_by x f t = ticked_unless x.answer x.airframe f t
 
 -- whether the lengths are those of a state, a tick and a report
 unfoldable pub tick_lengths : ℕ → ℕ → ℕ → Bool
@@ -180,7 +185,7 @@ state_after_run state r = cond (is_done r.answer) (flight_numbers r.flight) stat
 -- accepted tick
 unfoldable pub run_result_by : AirframeRead → Flight → List ℕ → RunResult
 run_result_by x f trace =
-    cond (is_whole trace) (cond (is_done x.answer) (run_result_of x.airframe f trace) (ended x.answer f 0)) (ended WrongLength f 0)
+    cond (is_whole trace) (cond (is_done x.answer) (run_result_of x.airframe f trace) (ended x.answer f 0)) (ended (Err WrongLength) f 0)
 
 -- the run's reflection: reflected airframe, state and ticks
 unfoldable pub reflected_by : AirframeRead → Flight → List ℕ → RunResult
@@ -189,7 +194,7 @@ reflected_by x f trace =
     (cond (is_done x.answer)
     (run_result_of (reflect_airframe x.airframe) (reflect_flight f) (reflect_trace trace))
     (ended x.answer (reflect_flight f) 0))
-    (ended WrongLength (reflect_flight f) 0)
+    (ended (Err WrongLength) (reflect_flight f) 0)
 
 -- what a run gives back
 pub record RunOutcome : Type 0 where

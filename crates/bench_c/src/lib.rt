@@ -21,7 +21,7 @@ ghost use Rattle.bench_c.specs.Promises as Promises;
 ghost use Rattle.bench_c.specs.Library as Library;
 
 use airframe_block::AirframeRead;
-use answers::Answer;
+use answers::{Answer, Refusal};
 use flight::{Flight, Tick};
 use run::{Pair, RunResult};
 use wing::{Report, Tables, TickResult};
@@ -97,7 +97,7 @@ const WRONG_LENGTH: u64 = 1;
 fn reply(answer: Answer) -> u64
     ensures { result ≡ Library.reply_of answer }
 {
-    answer.number() as u64 + 16 * answer.place() as u64
+    answers::number(answer) as u64 + 16 * answers::place(answer) as u64
 }
 
 // Reads an airframe block for its answer and place.
@@ -202,11 +202,10 @@ fn arrays_fit(state: usize, tick: usize, report: usize) -> bool
 fn ticked_by(read: AirframeRead, f: Flight, t: Tick) -> TickResult
     ensures { result ≡ Library.ticked_by read f t }
 {
-    let answer = read.answer;
-    if answer.is_done() {
-        return lent_tick::tick_by_reference(read.airframe, f, t);
+    match read.answer {
+        Ok(()) => lent_tick::tick_by_reference(read.airframe, f, t),
+        Err(refusal) => wing::refused(refusal, f),
     }
-    wing::refused(answer, f)
 }
 
 // The tick of an airframe in its array, which is tested where it stands, and read after the lag factors are made.
@@ -222,7 +221,7 @@ fn ticked_prepared(airframe: &[f32], f: Flight, t: Tick) -> TickResult
         let a = arrays::airframe_in(airframe);
         return wing::tick_accepted(a, f, t, lags, &tables);
     }
-    wing::refused(Answer::NumberOutOfRange(place), f)
+    wing::refused(Refusal::NumberOutOfRange(place), f)
 }
 
 // Alpha, beta and thrust into their array.
@@ -242,7 +241,7 @@ fn store_if_accepted(state: &mut [f32], done: TickResult)
 {
     let report = done.report;
     let answer = report.answer;
-    if answer.is_done() {
+    if answer.is_ok() {
         arrays::put_flight(state, done.flight);
     }
 }
@@ -320,12 +319,12 @@ fn run_by(read: AirframeRead, f: Flight, trace: &[u8]) -> RunResult
 {
     if trace::is_whole(trace) {
         let answer = read.answer;
-        if answer.is_done() {
+        if answer.is_ok() {
             return run::run(read.airframe, f, trace);
         }
         return ended(answer, f);
     }
-    ended(Answer::WrongLength, f)
+    ended(Err(Refusal::WrongLength), f)
 }
 
 // A run that is refused, and its reflection.
@@ -344,12 +343,12 @@ fn pair_by(read: AirframeRead, f: Flight, trace: &[u8]) -> Pair
 {
     if trace::is_whole(trace) {
         let answer = read.answer;
-        if answer.is_done() {
+        if answer.is_ok() {
             return run::mirrored_pair(read.airframe, f, trace);
         }
         return ended_pair(answer, f);
     }
-    ended_pair(Answer::WrongLength, f)
+    ended_pair(Err(Refusal::WrongLength), f)
 }
 
 // A run's end state into its array, which a refused run leaves as found.
@@ -358,7 +357,7 @@ fn put_end(state: &mut [f32], done: RunResult)
     ensures { state.new ≡ Library.state_after_run state.old done }
 {
     let answer = done.answer;
-    if answer.is_done() {
+    if answer.is_ok() {
         arrays::put_flight(state, done.flight);
     }
 }

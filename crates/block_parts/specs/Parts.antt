@@ -1,10 +1,11 @@
 -- What blocks of bytes are made of (01, "Blocks"): numbers, vectors and the numbers of the 8 slots, and where each stands in the
 -- bytes. A block's bytes are a list of numbers below 256. Definitions only.
-use Rattle.std.specs.Prelude.{◌*◌, ◌+◌, suc, zero, ℕ, eqb, Float, length, cond, List}
+use Rattle.std.specs.Prelude.{Err, ◌*◌, ◌+◌, suc, zero, ℕ, eqb, Float, length, cond, List}
 use Rattle.std.specs.Float.{binary32}
 use Rattle.std.specs.Float.Ieee.{of_bits, to_bits}
-use Rattle.answers.specs.declared.Answer.{Answer}
-use Rattle.answers.specs.declared.Answer.TheVariants.{Done, WrongLength}
+use Rattle.answers.specs.Answers.{Answer}
+use Rattle.answers.specs.declared.Refusal.TheVariants.{WrongLength}
+use Rattle.answers.specs.Answers.{done}
 use Rattle.float.specs.Bytes.{put, word}
 use Rattle.mixers.specs.Slots.{at, slots}
 use Rattle.vector.specs.Vector.{vec}
@@ -56,4 +57,4 @@ put_floats s i xs (suc n) = put_float (put_floats s i xs n) (i + number_bytes * 
 -- a block is written, untested, into just as many bytes as it has, else 1 (01, "What the bench replies"), and the bytes stay as
 -- found
 unfoldable pub write_answer : ℕ → List ℕ → Answer
-write_answer n s = cond (eqb (length s) n) Done WrongLength
+write_answer n s = cond (eqb (length s) n) done (Err WrongLength)

@@ -3,7 +3,7 @@ use Rattle.std.proofs.Common.{◌≡◌, ℕ, zero, suc, ◌+◌, ◌/◌, ◌%�
 use lib.Seq.{set_comm, sets}
 use Rattle.lines.specs.Glyph.{glyph_of}
 use Rattle.lines.specs.Text.{digits_of, end_text, byte_text, overwrite, digit_count, refusal_text}
-use Rattle.answers.specs.declared.Answer.TheVariants.{WrongLength}
+use Rattle.answers.specs.declared.Refusal.TheVariants.{WrongLength}
 use Rattle.trace.specs.Tick.{tick_bytes}
 
 pub overwrite-append : (vs ws l : List ℕ) (i : ℕ) → overwrite (overwrite l i vs) (i + length vs) ws ≡ overwrite l i (vs ++ ws)

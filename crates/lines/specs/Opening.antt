@@ -1,11 +1,9 @@
 -- What stands before the ticks of an input: the airframe's block, and behind an accepted one the state's. Definitions only.
-use Rattle.std.specs.Prelude.{◌≡◌, ℕ, Bool, cond, List}
+use Rattle.std.specs.Prelude.{Ok, Err, ◌≡◌, ℕ, Bool, cond, List}
 use Rattle.airframe.specs.Acceptance.{refused_place}
 use Rattle.airframe.specs.declared.Airframe.{Airframe}
-use Rattle.airframe_block.specs.Block.{header_bytes, read_airframe_of}
+use Rattle.airframe_block.specs.Block.{Announced, header_bytes, read_airframe_of}
 use Rattle.airframe_block.specs.declared.AirframeRead.{AirframeRead}
-use Rattle.airframe_block.specs.declared.Announced.{Announced}
-use Rattle.airframe_block.specs.declared.Announced.TheVariants.{Bytes, Refused}
 use Rattle.answers.specs.Answers.{is_done}
 use Rattle.flight.specs.Envelope.{outside_of, zero_flight}
 use Rattle.flight.specs.declared.Flight.{Flight}
@@ -15,8 +13,8 @@ use Rattle.state_block.specs.declared.StateRead.{StateRead}
 
 -- how many bytes of an airframe block are read, by what its header announces: of a refused one no more than the header
 unfoldable pub wanted_by : Announced → ℕ
-wanted_by (Bytes n) = n
-wanted_by (Refused answer) = header_bytes
+wanted_by (Ok n) = n
+wanted_by (Err refusal) = header_bytes
 
 -- an airframe with the state that was read behind it, and whether a read failed
 unfoldable pub with_state : Airframe → StateRead → Bool → Opened

@@ -1,10 +1,10 @@
 -- The text of the lines, as bytes (01, "Flown by hand"). Definitions only.
-use Rattle.std.specs.Prelude.{ℕ, zero, suc, ◌/◌, ◌%◌, cond, List, [], ◌∷◌, ◌++◌, ◌==◌, nat_lt, to_bits, Float}
+use Rattle.std.specs.Prelude.{Err, ℕ, zero, suc, ◌/◌, ◌%◌, cond, List, [], ◌∷◌, ◌++◌, ◌==◌, nat_lt, to_bits, Float}
 use Rattle.std.specs.Float.{binary32}
 use Rattle.std.proofs.lemmas.List.Edits.{sets}
 use Rattle.answers.specs.Answers.{number_of, place_of}
-use Rattle.answers.specs.declared.Answer.{Answer}
-use Rattle.answers.specs.declared.Answer.TheVariants.{WrongLength}
+use Rattle.answers.specs.Answers.{Answer}
+use Rattle.answers.specs.declared.Refusal.TheVariants.{WrongLength}
 use Rattle.body.specs.declared.Body.{Body}
 use Rattle.flight.specs.State.{body_of}
 use Rattle.flight.specs.declared.Flight.{Flight}
@@ -90,4 +90,4 @@ refusal_text answer =
 
 -- what follows the lines of the last n bytes: bytes short of a tick are refused
 unfoldable pub end_text : ℕ → List ℕ
-end_text n = cond (n % tick_bytes == 0) [] (refusal_text WrongLength)
+end_text n = cond (n % tick_bytes == 0) [] (refusal_text (Err WrongLength))

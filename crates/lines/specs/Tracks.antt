@@ -4,7 +4,7 @@ use mathlib.Core.List.{foldl}
 use Rattle.airframe.specs.Reflection.{reflect_airframe}
 use Rattle.airframe.specs.declared.Airframe.{Airframe}
 use Rattle.answers.specs.Answers.{is_done}
-use Rattle.answers.specs.declared.Answer.{Answer}
+use Rattle.answers.specs.Answers.{Answer}
 use Rattle.flight.specs.Reflection.{reflect_flight, reflect_tick}
 use Rattle.flight.specs.declared.Flight.{Flight}
 use Rattle.flight.specs.declared.Tick.{Tick}

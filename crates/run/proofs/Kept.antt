@@ -7,7 +7,9 @@ use mathlib.Core.Bool.{Bool, cond, false, true}
 use mathlib.Core.List.{List, [], ◌∷◌}
 use mathlib.Core.Path.{◌∙◌, ◌≡◌, ap, refl}
 use Rattle.airframe.specs.declared.Airframe.{Airframe}
-use Rattle.answers.specs.declared.Answer.TheVariants.{Done, WrongLength}
+use Rattle.answers.specs.declared.Refusal.TheVariants.{WrongLength}
+use Rattle.std.specs.Prelude.{Err}
+use Rattle.answers.specs.Answers.{done}
 use Rattle.flight.specs.declared.Flight.{Flight}
 use Rattle.flight.specs.declared.Tick.{Tick}
 use Rattle.trace.specs.Trace.{is_whole, ticks_of}
@@ -51,7 +53,7 @@ module _ (a : Airframe) (part : Flight → List Float) (stays : Stays a part) wh
   unfolding run_result_of run_result_over ended
   ran-keeps f s = go (is_whole s)
     where
-      go : (w : Bool) → Kept f (cond w (ended Done (run_of a f (ticks_of s)).flight (run_of a f (ticks_of s)).accepted) (ended WrongLength f 0)).flight
+      go : (w : Bool) → Kept f (cond w (ended done (run_of a f (ticks_of s)).flight (run_of a f (ticks_of s)).accepted) (ended (Err WrongLength) f 0)).flight
       go true = run-keeps f (ticks_of s)
       go false = refl
 

@@ -7,14 +7,15 @@ use mathlib.Core.Path.{◌∙◌, ◌≡◌, ap, ap₂, refl, sym}
 use native.Mathlib.Nat.{add-zero}
 use Rattle.airframe.specs.Acceptance.{refused_place}
 use Rattle.airframe.specs.declared.Airframe.{Airframe}
-use Rattle.answers.specs.Answers.{number_of}
-use Rattle.answers.specs.declared.Answer.{Answer}
-use Rattle.answers.specs.declared.Answer.TheVariants.{Done, WrongLength}
+use Rattle.answers.proofs.Numbers.{refused-not-done}
+use Rattle.answers.specs.declared.Refusal.{Refusal}
+use Rattle.answers.specs.declared.Refusal.TheVariants.{WrongLength}
+use Rattle.std.specs.Prelude.{Err}
+use Rattle.answers.specs.Answers.{done}
 use Rattle.flight.specs.Envelope.{is_inside}
 use Rattle.flight.specs.Reflection.{reflect_tick}
 use Rattle.flight.specs.declared.Flight.{Flight}
 use Rattle.flight.specs.declared.Tick.{Tick}
-use Rattle.ordered.proofs.Ordered.{some-eqb}
 use Rattle.trace.proofs.Reflection.{Bytes, reflected-length, reflected-ticks}
 use Rattle.trace.specs.Reflection.{reflect_trace}
 use Rattle.trace.specs.Tick.{tick_bytes}
@@ -28,13 +29,13 @@ use Rattle.run.specs.Run.{Progress, ended, one_if_done, progressed, run_result_o
 -- a tick that cannot pass every test leaves state and count
 stays : (a : Airframe) (p : Progress) (t : Tick) → (Passed a p.flight t → ⊥) → progressed a p t ≡ p
 unfolding progressed refused_of one_if_done
-stays a p t fails = tick-cases After a p.flight t (λ x n. refused x n) (λ q. absurd (fails q))
+stays a p t fails = tick-cases After a p.flight t (λ x. refused x) (λ q. absurd (fails q))
   where
     After : TickResult → Type 0
     After k = ◌≡◌ {A = Progress} (record { flight = k.flight; accepted = p.accepted + one_if_done k.report.answer }) p
 
-    refused : (x : Answer) → (number_of x ≡ 0 → ⊥) → After (refused_of x p.flight)
-    refused x n = rw (some-eqb (number_of x) n, add-zero)
+    refused : (x : Refusal) → After (refused_of x p.flight)
+    refused x = rw (refused-not-done x, add-zero)
 
 stays_all : (a : Airframe) (p : Progress) (ts : List Tick) → ((t : Tick) → Passed a p.flight t → ⊥) → run_from a p ts ≡ p
 unfolding run_from
@@ -54,7 +55,7 @@ wind-stays a p t w = stays a p t (λ q. true≢false (sym q.wind ∙ w))
 -- a state inside the envelope is followed by one inside: itself, or one that passed test 9
 pub stays-inside : (a : Airframe) (f : Flight) (t : Tick) → is_inside f ≡ true → is_inside (tick_of a f t).flight ≡ true
 unfolding refused_of
-stays-inside a f t i = tick-cases (λ (k : TickResult). is_inside k.flight ≡ true) a f t (λ x n. i) (λ p. p.next)
+stays-inside a f t i = tick-cases (λ (k : TickResult). is_inside k.flight ≡ true) a f t (λ x. i) (λ p. p.next)
 
 -- what an iteration of the loop keeps is the run's progress
 pub progress : (a : Airframe) (p : Progress) (t u : Tick) (k : TickResult) (n : ℕ) → u ≡ t → k ≡ tick_of a p.flight u → n ≡ one_if_done k.report.answer
@@ -80,6 +81,6 @@ pub reflected-run : (a : Airframe) (f : Flight) (s : List ℕ) → Bytes s → r
 unfolding run_result_of run_result_over
 reflected-run a f s h =
     ap₂
-    (λ (n : ℕ) (ts : List Tick). cond (eqb (n % tick_bytes) 0) (ended Done (run_of a f ts).flight (run_of a f ts).accepted) (ended WrongLength f 0))
+    (λ (n : ℕ) (ts : List Tick). cond (eqb (n % tick_bytes) 0) (ended done (run_of a f ts).flight (run_of a f ts).accepted) (ended (Err WrongLength) f 0))
     (reflected-length s)
     (reflected-ticks s h)

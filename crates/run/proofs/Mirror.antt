@@ -9,8 +9,10 @@ use Rattle.airframe.proofs.Mirror.{reflect-airframe}
 use Rattle.airframe.specs.Reflection.{AirframeRel, reflect_airframe}
 use Rattle.airframe.specs.declared.Airframe.{Airframe}
 use Rattle.answers.specs.Answers.{number_of, place_of}
-use Rattle.answers.specs.declared.Answer.{Answer}
-use Rattle.answers.specs.declared.Answer.TheVariants.{Done, WrongLength}
+use Rattle.answers.specs.Answers.{Answer}
+use Rattle.answers.specs.declared.Refusal.TheVariants.{WrongLength}
+use Rattle.std.specs.Prelude.{Err}
+use Rattle.answers.specs.Answers.{done}
 use Rattle.flight.proofs.Mirror.{outside-is, reflect-flight, reflect-tick}
 use Rattle.flight.specs.Envelope.{is_inside, outside_of}
 use Rattle.flight.specs.Reflection.{FlightRel, TickRel, reflect_flight, reflect_tick}
@@ -91,9 +93,9 @@ pub ran-mirror : (a : Airframe) (f : Flight) (s : List ℕ) (ts : List Tick)
 unfolding run_result_over ended
 ran-mirror a f s ts = go (is_whole s)
   where
-    go : (t : Bool) → RunRel (cond t (ended Done (run_of a f ts).flight (run_of a f ts).accepted) (ended WrongLength f 0))
-        (cond t (ended Done (run_of (reflect_airframe a) (reflect_flight f) (map reflect_tick ts)).flight
-        (run_of (reflect_airframe a) (reflect_flight f) (map reflect_tick ts)).accepted) (ended WrongLength (reflect_flight f) 0))
+    go : (t : Bool) → RunRel (cond t (ended done (run_of a f ts).flight (run_of a f ts).accepted) (ended (Err WrongLength) f 0))
+        (cond t (ended done (run_of (reflect_airframe a) (reflect_flight f) (map reflect_tick ts)).flight
+        (run_of (reflect_airframe a) (reflect_flight f) (map reflect_tick ts)).accepted) (ended (Err WrongLength) (reflect_flight f) 0))
     go true = let r = run-mirror (reflect-airframe a) (reflect-flight f) (ticks-mirror ts) in record { answer = refl; state = r.0; count = r.1 }
     go false = record { answer = refl; state = reflect-flight f; count = refl }
 

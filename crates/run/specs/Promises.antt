@@ -3,7 +3,7 @@
 -- what each of these is in their terms.
 use Rattle.std.specs.Prelude.{ℕ, Bool, cond, List, map}
 use Rattle.airframe.specs.declared.Airframe.{Airframe}
-use Rattle.answers.specs.declared.Answer.TheVariants.{Done}
+use Rattle.answers.specs.Answers.{done}
 use Rattle.flight.specs.Reflection.{reflect_tick}
 use Rattle.flight.specs.declared.Flight.{Flight}
 use Rattle.flight.specs.declared.Tick.{Tick}
@@ -29,4 +29,4 @@ track_result reflect a f s = run_result_over a f s (track_ticks reflect s)
 
 -- its run where the trace is whole ticks
 unfoldable pub track_flown : Bool → Airframe → Flight → List ℕ → RunResult
-track_flown reflect a f s = ended Done (run_of a f (track_ticks reflect s)).flight (run_of a f (track_ticks reflect s)).accepted
+track_flown reflect a f s = ended done (run_of a f (track_ticks reflect s)).flight (run_of a f (track_ticks reflect s)).accepted

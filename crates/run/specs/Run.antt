@@ -1,11 +1,12 @@
 -- 01, "A run by demand 2's definition": ticks one by one, always with the same airframe; a tick starts from what the tick before
 -- it handed back, after a refusal too. Definitions only.
-use Rattle.std.specs.Prelude.{◌+◌, ℕ, eqb, Float, cond}
+use Rattle.std.specs.Prelude.{Err, ◌+◌, ℕ, eqb, Float, cond}
 use mathlib.Core.List.{List, [], ◌∷◌, foldl}
 use Rattle.airframe.specs.declared.Airframe.{Airframe}
 use Rattle.answers.specs.Answers.{is_done, number_of, place_of}
-use Rattle.answers.specs.declared.Answer.{Answer}
-use Rattle.answers.specs.declared.Answer.TheVariants.{Done, WrongLength}
+use Rattle.answers.specs.Answers.{Answer}
+use Rattle.answers.specs.declared.Refusal.TheVariants.{WrongLength}
+use Rattle.answers.specs.Answers.{done}
 use Rattle.flight.specs.declared.Flight.{Flight}
 use Rattle.flight.specs.declared.Tick.{Tick}
 use Rattle.trace.specs.Trace.{is_whole, ticks_of}
@@ -77,7 +78,7 @@ ended x f n = record { answer = x; flight = f; accepted = n }
 -- a trace that is not whole ticks: 1, the given state and 0; else 0, with the run's last state and count
 unfoldable pub run_result_over : Airframe → Flight → List ℕ → List Tick → RunResult
 run_result_over a f s ts =
-    cond (is_whole s) (ended Done (run_of a f ts).flight (run_of a f ts).accepted) (ended WrongLength f 0)
+    cond (is_whole s) (ended done (run_of a f ts).flight (run_of a f ts).accepted) (ended (Err WrongLength) f 0)
 
 unfoldable pub run_result_of : Airframe → Flight → List ℕ → RunResult
 run_result_of a f s = run_result_over a f s (ticks_of s)

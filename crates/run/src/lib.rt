@@ -10,7 +10,7 @@ ghost use Rattle.run.specs.Run as Run;
 ghost use Rattle.run.specs.Mirrored as Mirrored;
 
 use airframe::Airframe;
-use answers::Answer;
+use answers::{Answer, Refusal};
 use flight::{Flight, Tick};
 use wing::Tables;
 
@@ -54,11 +54,11 @@ fn run_track(a: Airframe, f: Flight, trace: &[u8], reflect: bool) -> RunResult
             if f.is_inside() {
                 return fly_all(a, f, trace, reflect);
             }
-            return ended(Answer::Done, f, 0);
+            return ended(Ok(()), f, 0);
         }
-        return ended(Answer::Done, f, 0);
+        return ended(Ok(()), f, 0);
     }
-    ended(Answer::WrongLength, f, 0)
+    ended(Err(Refusal::WrongLength), f, 0)
 }
 
 fn ended(answer: Answer, flight: Flight, accepted: u64) -> RunResult
@@ -94,7 +94,7 @@ fn fly_all(a: Airframe, f: Flight, trace: &[u8], reflect: bool) -> RunResult
         flight = done.flight;
         i += 1;
     }
-    ended(Answer::Done, flight, accepted)
+    ended(Ok(()), flight, accepted)
 }
 
 // The trace's tick i, as it is or reflected.
@@ -113,5 +113,8 @@ fn one_if_done(answer: Answer) -> u64
     ensures value { result ≡ Run.one_if_done answer }
     ensures upper_bound { result ≤ 1 }
 {
-    if answer.is_done() { 1 } else { 0 }
+    match answer {
+        Ok(()) => 1,
+        Err(_) => 0,
+    }
 }

@@ -7,7 +7,8 @@ use mathlib.Core.Bool.{Bool, cond, false, true}
 use mathlib.Core.List.{List}
 use mathlib.Core.Path.{◌≡◌, refl}
 use native.Mathlib.Omega.{arith}
-use Rattle.answers.specs.declared.Answer.TheVariants.{Done, StateOutside, WrongLength}
+use Rattle.answers.specs.declared.Refusal.TheVariants.{StateOutside, WrongLength}
+use Rattle.answers.specs.Answers.{done}
 use Rattle.float.proofs.Tests.{either}
 use Rattle.flight.specs.Envelope.{outside_of}
 use Rattle.flight.specs.declared.Flight.{Flight}
@@ -17,7 +18,7 @@ use Rattle.state_block.specs.Layout.{scales_at, state_bytes, tested_state, unlif
 use Rattle.state_block.specs.declared.StateRead.{StateRead}
 
 abbrev Within : StateRead → Type 0
-Within r = r.answer ≡ Done → outside_of r.flight ≡ 0
+Within r = r.answer ≡ done → outside_of r.flight ≡ 0
 
 refused-length : Within (refused_state WrongLength)
 unfolding refused_state
@@ -38,9 +39,9 @@ state-within s =
     (either Within (eqb (length s) lift_at) (tested-within (flight_with (floats_from s scales_at) unlifted s 0))
     (either Within (eqb (length s) scales_at) (tested-within (flight_with unscaled unlifted s 0)) refused-length))
 
-pub accepted-state : (s : List ℕ) → (read_state_of s).answer ≡ Done → outside_of (read_state_of s).flight ≡ 0
+pub accepted-state : (s : List ℕ) → (read_state_of s).answer ≡ done → outside_of (read_state_of s).flight ≡ 0
 accepted-state s = state-within s
 
-pub accepted-full : (s : List ℕ) → (read_full_of s).answer ≡ Done → outside_of (read_full_of s).flight ≡ 0
+pub accepted-full : (s : List ℕ) → (read_full_of s).answer ≡ done → outside_of (read_full_of s).flight ≡ 0
 unfolding read_full_of
 accepted-full s = either Within (eqb (length s) state_bytes) (state-within s) refused-length

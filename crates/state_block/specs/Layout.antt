@@ -1,8 +1,9 @@
 -- The state block (01, "Blocks"; 02, 2 and 5): which number stands where in the bytes, and what reading and writing a state block
 -- gives. Definitions only.
-use Rattle.std.specs.Prelude.{◌*◌, ◌+◌, ℕ, eqb, Float, length, replicate, cond, List}
-use Rattle.answers.specs.declared.Answer.{Answer}
-use Rattle.answers.specs.declared.Answer.TheVariants.{Done, StateOutside, WrongLength}
+use Rattle.std.specs.Prelude.{Err, ◌*◌, ◌+◌, ℕ, eqb, Float, length, replicate, cond, List}
+use Rattle.answers.specs.declared.Refusal.{Refusal}
+use Rattle.answers.specs.declared.Refusal.TheVariants.{StateOutside, WrongLength}
+use Rattle.answers.specs.Answers.{done}
 use Rattle.block_parts.specs.Parts.{float_at, floats_from, number_bytes, put_float, put_floats, put_vec, slots_bytes, vec_bytes, vec_from}
 use Rattle.body.specs.declared.Body.{Body}
 use Rattle.flight.specs.Envelope.{outside_of, zero_flight}
@@ -76,11 +77,11 @@ unlifted = replicate 8 zero
 
 -- ---- reading a state block (01, "What the bench replies": "State: 1, 7", "A refused read returns .. state of zeros")
 
-unfoldable pub refused_state : Answer → StateRead
-refused_state a = record { answer = a; flight = zero_flight }
+unfoldable pub refused_state : Refusal → StateRead
+refused_state a = record { answer = Err a; flight = zero_flight }
 
 unfoldable pub accepted_state : Flight → StateRead
-accepted_state f = record { answer = Done; flight = f }
+accepted_state f = record { answer = done; flight = f }
 
 -- a state within the envelope is read
 unfoldable pub tested_state : Flight → StateRead

@@ -5,7 +5,7 @@ ghost use Rattle.std.specs.Prelude.{◌≡◌, ◌+◌, ◌≤◌, length};
 ghost use Rattle.block_parts.specs.Parts.{write_answer};
 ghost use Rattle.state_block.specs.Layout as Layout;
 
-use answers::Answer;
+use answers::{Answer, Refusal};
 use block_parts::{NUMBER_BYTES, SLOTS_BYTES, VEC_BYTES};
 use body::Body;
 use flight::Flight;
@@ -73,11 +73,13 @@ fn read_flight(s: &[u8], at: usize, thrust_scale: [f32; 8], lift_motors: [f32; 8
 }
 
 // A refused state: the reply, and a state of zeros.
-fn refused(answer: Answer) -> StateRead
-    ensures { result ≡ Layout.refused_state answer }
+fn refused(refusal: Refusal) -> StateRead
+    ensures { result ≡ Layout.refused_state refusal }
 {
-    let flight = Flight::zero();
-    StateRead { answer, flight }
+    StateRead {
+        answer: Err(refusal),
+        flight: Flight::zero(),
+    }
 }
 
 // The state as read: refused where it is outside the envelope.
@@ -85,10 +87,10 @@ fn tested(flight: Flight) -> StateRead
     ensures { result ≡ Layout.tested_state flight }
 {
     if flight.outside() != 0 {
-        return refused(Answer::StateOutside);
+        return refused(Refusal::StateOutside);
     }
     StateRead {
-        answer: Answer::Done,
+        answer: Ok(()),
         flight,
     }
 }
@@ -111,7 +113,7 @@ pub fn read_state(s: &[u8]) -> StateRead
     if n == SCALES_AT {
         return tested(read_flight(s, 0, [1.0; 8], [0.0; 8]));
     }
-    refused(Answer::WrongLength)
+    refused(Refusal::WrongLength)
 }
 
 // The state block `s` of all 180 bytes, and of no fewer: what the programs read (02, 5).
@@ -121,7 +123,7 @@ pub fn read_full_state(s: &[u8]) -> StateRead
     if s.len() == STATE_BYTES {
         return read_state(s);
     }
-    refused(Answer::WrongLength)
+    refused(Refusal::WrongLength)
 }
 
 fn write_attitude(s: &mut [u8], at: usize, q: Quaternion)
@@ -166,8 +168,8 @@ pub fn write_state(s: &mut [u8], f: Flight) -> Answer
 {
     let lent = s.len();
     if lent != STATE_BYTES {
-        return Answer::WrongLength;
+        return Err(Refusal::WrongLength);
     }
     write_flight(s, 0, f);
-    Answer::Done
+    Ok(())
 }

@@ -7,7 +7,7 @@ use lib.ListN.{length}
 use mathlib.Core.List.{List}
 use mathlib.Core.Path.{◌∙◌, ◌≡◌}
 use native.Mathlib.Omega.{arith}
-use Rattle.answers.specs.declared.Answer.TheVariants.{Done}
+use Rattle.answers.specs.Answers.{done}
 use Rattle.block_parts.proofs.RoundTrip.{Kept, SlotsFit, VecFits, float_same, slots-before, slots_kept, slots_same, vec-before, vec_kept, vec-same}
 use Rattle.block_parts.proofs.Writing.{length-put_float, length-put_floats, length-put_vec}
 use Rattle.block_parts.specs.Parts.{put_float, put_floats, put_vec}
@@ -73,7 +73,7 @@ module _ (s : List ℕ) (i : ℕ) (t : Tick) (l : i + 80 ≤ length s) (h : Tick
 
 -- a tick written into 80 bytes and read again is the same
 pub tick-written-then-read :
-    (s : List ℕ) (t : Tick) → length s ≡ 80 → TickFits t → read_tick_of (written_tick s t) ≡ record { answer = Done; tick = t }
+    (s : List ℕ) (t : Tick) → length s ≡ 80 → TickFits t → read_tick_of (written_tick s t) ≡ record { answer = done; tick = t }
 unfolding written_tick read_tick_of
 tick-written-then-read s t l h =
     let b : 0 + 80 ≤ length s = omega arith in

@@ -1,7 +1,8 @@
 -- The tick block (01, "Blocks"): which number stands where in the bytes, and what reading and writing a tick block gives. Definitions
 -- only.
-use Rattle.std.specs.Prelude.{◌+◌, ℕ, eqb, length, replicate, cond, List}
-use Rattle.answers.specs.declared.Answer.TheVariants.{Done, WrongLength}
+use Rattle.std.specs.Prelude.{Err, ◌+◌, ℕ, eqb, length, replicate, cond, List}
+use Rattle.answers.specs.declared.Refusal.TheVariants.{WrongLength}
+use Rattle.answers.specs.Answers.{done}
 use Rattle.block_parts.specs.Parts.{float_at, floats_from, number_bytes, put_float, put_floats, put_vec, slots_bytes, vec_bytes, vec_from}
 use Rattle.flight.specs.declared.Tick.{Tick}
 use Rattle.float.specs.Notation.{zero}
@@ -41,8 +42,8 @@ zero_tick = record { step_s = zero; wind_ned_mps = zero_vec; motors = replicate 
 -- a tick block by itself: 80 bytes, else 1 and a tick of zeros; no number is tested
 unfoldable pub read_tick_of : List ℕ → TickRead
 read_tick_of s =
-    cond (eqb (length s) tick_bytes) (record { answer = Done; tick = tick_from s 0 })
-    (record { answer = WrongLength; tick = zero_tick })
+    cond (eqb (length s) tick_bytes) (record { answer = done; tick = tick_from s 0 })
+    (record { answer = Err WrongLength; tick = zero_tick })
 
 -- ---- writing: one number after the other, in the block's order
 

@@ -6,7 +6,7 @@ ghost use Rattle.block_parts.specs.Parts.{write_answer};
 ghost use Rattle.trace.specs.Tick as Block;
 ghost use Rattle.trace.specs.Trace as Trace;
 
-use answers::Answer;
+use answers::{Answer, Refusal};
 use block_parts::{NUMBER_BYTES, SLOTS_BYTES, VEC_BYTES};
 use flight::Tick;
 use vector::Vec3;
@@ -66,13 +66,13 @@ pub fn read_tick_block(s: &[u8]) -> TickRead
     if n == TICK_BYTES {
         let tick = read_tick(s, 0);
         return TickRead {
-            answer: Answer::Done,
+            answer: Ok(()),
             tick,
         };
     }
     let tick = zero_tick();
     TickRead {
-        answer: Answer::WrongLength,
+        answer: Err(Refusal::WrongLength),
         tick,
     }
 }
@@ -97,10 +97,10 @@ pub fn write_tick(s: &mut [u8], t: Tick) -> Answer
 {
     let lent = s.len();
     if lent != TICK_BYTES {
-        return Answer::WrongLength;
+        return Err(Refusal::WrongLength);
     }
     write_tick_at(s, 0, t);
-    Answer::Done
+    Ok(())
 }
 
 // Whether the trace is whole ticks.

@@ -9,8 +9,8 @@ use mathlib.Core.Path.{◌∙◌, ◌≡◌, ap, refl}
 use Rattle.airframe.specs.Acceptance.{refused_place}
 use Rattle.airframe.specs.Promises.{lag_constants_of}
 use Rattle.airframe.specs.declared.Airframe.{Airframe}
-use Rattle.answers.specs.declared.Answer.{Answer}
-use Rattle.answers.specs.declared.Answer.TheVariants.{Departure, NumberOutOfRange, StateOutside, StepOutside, WindUnusable}
+use Rattle.answers.specs.declared.Refusal.{Refusal}
+use Rattle.answers.specs.declared.Refusal.TheVariants.{Departure, NumberOutOfRange, StateOutside, StepOutside, WindUnusable}
 use Rattle.body.specs.declared.Body.{Body}
 use Rattle.flight.specs.Envelope.{is_inside, outside_of, slots_outside}
 use Rattle.flight.specs.State.{body_of, flight_of}
@@ -75,7 +75,7 @@ module _ (a : Airframe) (p : a.lift_present ≡ false) where
   pub lift-stays : (f : Flight) (t : Tick) → (tick_of a f t).flight.lift_motors ≡ f.lift_motors
   unfolding refused_of
   lift-stays f t =
-      tick-cases (λ (k : TickResult). k.flight.lift_motors ≡ f.lift_motors) a f t (λ x n. refl) (λ q. next-lift a f t ∙ lift-unmoved a f t p)
+      tick-cases (λ (k : TickResult). k.flight.lift_motors ≡ f.lift_motors) a f t (λ x. refl) (λ q. next-lift a f t ∙ lift-unmoved a f t p)
 
   pub tick-unlifted : (f : Flight) (t : Tick) → tick_of a f t ≡ tick_with a f t f.lift_motors (unlifted_by wrench_with a f t (density_for f))
   unfolding tick_of loads_in loads_of pull_of
@@ -105,7 +105,7 @@ module _ (a : Airframe) (p : a.lift_present ≡ false) (xs : List Float) (e : sl
   unfolding next_with stepped_of moved_of surfaces_for spun_of motors_for density_for
   next-too f t = refl
 
-  refused-too : (x : Answer) (f : Flight) → Hands (refused_of x f) (refused_of x (with_lift_running f xs))
+  refused-too : (x : Refusal) (f : Flight) → Hands (refused_of x f) (refused_of x (with_lift_running f xs))
   unfolding refused_of
   refused-too x f = refl
 

@@ -16,8 +16,8 @@ use Rattle.airframe.proofs.Mirror.{refused-place-is}
 use Rattle.airframe.specs.Acceptance.{refused_place}
 use Rattle.airframe.specs.Reflection.{AirframeRel}
 use Rattle.airframe.specs.declared.Airframe.{Airframe}
-use Rattle.answers.specs.declared.Answer.{Answer}
-use Rattle.answers.specs.declared.Answer.TheVariants.{Departure, NumberOutOfRange, StateOutside, StepOutside, WindUnusable}
+use Rattle.answers.specs.declared.Refusal.{Refusal}
+use Rattle.answers.specs.declared.Refusal.TheVariants.{Departure, NumberOutOfRange, StateOutside, StepOutside, WindUnusable}
 use Rattle.body.proofs.Mirror.{add-wrench-mirror, air-velocity-mirror, step-mirror}
 use Rattle.body.specs.Reflection.{BodyRel, WrenchRel}
 use Rattle.body.specs.declared.Body.{Body}
@@ -176,7 +176,7 @@ next-mirror {a} {a'} {f} {f'} {t} {t'} h k w =
     (rw (density-for-is k) (loads-mirror (density_for f) h motors surfaces lifted k.body w.wind))
 
 -- ---- the tests
-refused-mirror : {f f' : Flight} (x : Answer) → FlightRel f f' → TickedRel (refused_of x f) (refused_of x f')
+refused-mirror : {f f' : Flight} (x : Refusal) → FlightRel f f' → TickedRel (refused_of x f) (refused_of x f')
 unfolding refused_of
 refused-mirror x h = record { report = record { answer = refl; alpha = r-same zero; beta = r-zero true false false (pos 0); thrust = r-same zero }; flight = h }
 

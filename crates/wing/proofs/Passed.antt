@@ -3,12 +3,12 @@ use borrow.Author.Tests.{eqb-true}
 use lib.Dec.{eqb}
 use mathlib.Core.Bool.{true}
 use mathlib.Core.Path.{◌≡◌}
-use native.Mathlib.Nat.{suc-ne-zero}
 use Rattle.airframe.specs.Acceptance.{refused_place}
 use Rattle.airframe.specs.declared.Airframe.{Airframe}
+use Rattle.answers.proofs.Numbers.{refusal-not-0}
 use Rattle.answers.specs.Answers.{number_of}
-use Rattle.answers.specs.declared.Answer.{Answer}
-use Rattle.answers.specs.declared.Answer.TheVariants.{Departure, NumberOutOfRange, StateOutside, StepOutside, WindUnusable}
+use Rattle.answers.specs.declared.Refusal.{Refusal}
+use Rattle.answers.specs.declared.Refusal.TheVariants.{Departure, NumberOutOfRange, StateOutside, StepOutside, WindUnusable}
 use Rattle.flight.specs.Envelope.{is_inside}
 use Rattle.flight.specs.declared.Flight.{Flight}
 use Rattle.flight.specs.declared.Tick.{Tick}
@@ -26,7 +26,7 @@ pub record Passed (a : Airframe) (f : Flight) (t : Tick) : Type 0 where
   pub wind : wind_usable t.wind_ned_mps ≡ true
   pub next : is_inside (next_of a f t).flight ≡ true
 
-pub tick-cases : (P : TickResult → Type 0) (a : Airframe) (f : Flight) (t : Tick) → ((x : Answer) → (number_of x ≡ 0 → ⊥) → P (refused_of x f))
+pub tick-cases : (P : TickResult → Type 0) (a : Airframe) (f : Flight) (t : Tick) → ((x : Refusal) → P (refused_of x f))
     → (Passed a f t → P (next_of a f t)) → P (tick_of a f t)
 unfolding tick_of tick_with accepted_tick unless_departed
 tick-cases P a f t refused next =
@@ -35,13 +35,13 @@ tick-cases P a f t refused next =
     (λ s. by_cases P (inside step_least step_most t.step_s)
     (λ h. by_cases P (wind_usable t.wind_ned_mps)
     (λ w. by_cases P (is_inside (next_of a f t).flight) (λ n. next (record { airframe = eqb-true _ _ p; state = s; step = h; wind = w; next = n }))
-    (refused Departure (suc-ne-zero 8)))
-    (refused WindUnusable (suc-ne-zero 9)))
-    (refused StepOutside (suc-ne-zero 7)))
-    (refused StateOutside (suc-ne-zero 6)))
-    (refused (NumberOutOfRange (refused_place a)) (suc-ne-zero 5))
+    (refused Departure))
+    (refused WindUnusable))
+    (refused StepOutside))
+    (refused StateOutside))
+    (refused (NumberOutOfRange (refused_place a)))
 
 -- so a tick that answers 0 has passed
 pub passed : (a : Airframe) (f : Flight) (t : Tick) → number_of (tick_of a f t).report.answer ≡ 0 → Passed a f t
 unfolding refused_of
-passed a f t = tick-cases (λ (k : TickResult). number_of k.report.answer ≡ 0 → Passed a f t) a f t (λ x n e. absurd (n e)) (λ p e. p)
+passed a f t = tick-cases (λ (k : TickResult). number_of k.report.answer ≡ 0 → Passed a f t) a f t (λ x e. absurd (refusal-not-0 x e)) (λ p e. p)

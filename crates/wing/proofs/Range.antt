@@ -130,7 +130,7 @@ pub record Keeps (a : Airframe) (f : Flight) (r : TickResult) : Type 0 where
 pub tick-keeps : (a : Airframe) (f : Flight) (t : Tick) → Representable f → Running f → Keeps a f (tick_of a f t)
 unfolding refused_of
 tick-keeps a f t g r =
-    tick-cases (Keeps a f) a f t (λ x n. record {
+    tick-cases (Keeps a f) a f t (λ x. record {
       running = r;
       still = record { motors = unused-unchanged-same _ _; scale = refl; lift = unused-unchanged-same _ _; unlifted = λ p. refl };
       held = g;

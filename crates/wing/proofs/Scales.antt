@@ -20,7 +20,7 @@ use Rattle.wing.specs.declared.TickResult.{TickResult}
 -- ---- refused or not, a tick hands back the scales it was given
 pub scale-stays : (a : Airframe) (f : Flight) (t : Tick) → (tick_of a f t).flight.thrust_scale ≡ f.thrust_scale
 unfolding refused_of
-scale-stays a f t = tick-cases (λ (k : TickResult). k.flight.thrust_scale ≡ f.thrust_scale) a f t (λ x n. refl) (λ p. next-scale a f t)
+scale-stays a f t = tick-cases (λ (k : TickResult). k.flight.thrust_scale ≡ f.thrust_scale) a f t (λ x. refl) (λ p. next-scale a f t)
 
 -- ---- scales of 1; the most thrust is a 32-bit float, as its type tells
 pub tick-as-built : (a : Airframe) (f : Flight) (t : Tick) → f.thrust_scale ≡ replicate 8 one → T (fits binary32 a.motors.layout.max_thrust_n)

@@ -11,7 +11,8 @@ use Rattle.aero.proofs.Range.{wrench-angles}
 use Rattle.airframe.specs.Acceptance.{refused_place}
 use Rattle.airframe.specs.declared.Airframe.{Airframe}
 use Rattle.answers.specs.Answers.{number_of}
-use Rattle.answers.specs.declared.Answer.TheVariants.{WindUnusable}
+use Rattle.answers.specs.declared.Refusal.{Refusal}
+use Rattle.answers.specs.declared.Refusal.TheVariants.{WindUnusable}
 use Rattle.body.specs.Motion.{air_velocity}
 use Rattle.flight.proofs.Range.{norm-within, velocity-within}
 use Rattle.flight.specs.Envelope.{is_inside, max_norm, outside_of}
@@ -37,10 +38,10 @@ wind-refused a f t p s h w = rw (p, s, h, w)
 
 -- and never an accepted tick: the state as given, and zeros
 pub unusable-refused : (a : Airframe) (f : Flight) (t : Tick) → wind_usable t.wind_ned_mps ≡ false
-    → tick_of a f t ≡ refused_of (tick_of a f t).report.answer f
+    → (x : Refusal) × (tick_of a f t ≡ refused_of x f)
 unfolding refused_of
 unusable-refused a f t w =
-    tick-cases (λ (k : TickResult). k ≡ refused_of k.report.answer f) a f t (λ x n. refl) (λ p. absurd (true≢false (sym p.wind ∙ w)))
+    tick-cases (λ (k : TickResult). (x : Refusal) × (k ≡ refused_of x f)) a f t (λ x. (x, refl)) (λ p. absurd (true≢false (sym p.wind ∙ w)))
 
 -- ---- the air's velocity on body axes, from a state inside the envelope: at most 2 ^ 18 m/s in size, so a number
 pub air-sized : (f : Flight) (wind : Vec3) → is_inside f ≡ true → wind_usable wind ≡ true → VecSized 18 (air_of (body_of f) wind)
@@ -65,4 +66,4 @@ next-angles a f t i u = wrench-angles _ _ _ _ _ _ (air-sized f t.wind_ned_mps i 
 
 pub tick-angles : (a : Airframe) (f : Flight) (t : Tick) → Angles (tick_of a f t).report
 unfolding refused_of
-tick-angles a f t = tick-cases (λ (k : TickResult). Angles k.report) a f t (λ x n. (tt, tt)) (λ p. next-angles a f t p.state p.wind)
+tick-angles a f t = tick-cases (λ (k : TickResult). Angles k.report) a f t (λ x. (tt, tt)) (λ p. next-angles a f t p.state p.wind)

@@ -1,11 +1,12 @@
 -- The tick (01, module 8 and "What the bench replies"; 02, 1, 5 and 6): tests 6, 7, 8, 10, the step, test 9. Definitions only.
-use Rattle.std.specs.Prelude.{eqb, Float, Bool, cond, List}
+use Rattle.std.specs.Prelude.{Err, eqb, Float, Bool, cond, List}
 use Rattle.std.specs.Float.Ieee.{neg}
 use Rattle.air.specs.Density.{density_at}
 use Rattle.airframe.specs.Acceptance.{refused_place}
 use Rattle.airframe.specs.declared.Airframe.{Airframe}
-use Rattle.answers.specs.declared.Answer.{Answer}
-use Rattle.answers.specs.declared.Answer.TheVariants.{Departure, Done, NumberOutOfRange, StateOutside, StepOutside, WindUnusable}
+use Rattle.answers.specs.declared.Refusal.{Refusal}
+use Rattle.answers.specs.declared.Refusal.TheVariants.{Departure, NumberOutOfRange, StateOutside, StepOutside, WindUnusable}
+use Rattle.answers.specs.Answers.{done}
 use Rattle.body.specs.Motion.{step_of}
 use Rattle.body.specs.declared.MassProperties.{MassProperties}
 use Rattle.fixed_wing.specs.declared.FixedWingModel.{FixedWingModel}
@@ -52,7 +53,7 @@ mass_of m = record { mass_kg = m.mass_kg; inertia_kgm2 = m.inertia_kgm2 }
 
 unfoldable pub stepped_of : FixedWingModel → Flight → List Float → List Float → List Float → Loaded → Float → TickResult
 stepped_of m f motors servos lift_running l h = record {
-  report = record { answer = Done; alpha_rad = l.alpha_rad; beta_rad = l.beta_rad; thrust_n = l.thrust_n };
+  report = record { answer = done; alpha_rad = l.alpha_rad; beta_rad = l.beta_rad; thrust_n = l.thrust_n };
   flight = flight_of (step_of (body_of f) (mass_of m) l.loads h) motors servos f.thrust_scale lift_running;
 }
 
@@ -61,9 +62,9 @@ unfoldable pub next_with : Airframe → Flight → Tick → List Float → Loade
 next_with a f t lift_running l = stepped_of a.model f (spun_of a f t).running (moved_of a f t).running lift_running l t.step_s
 
 -- a refusal: the given state again, and a report of zeros
-unfoldable pub refused_of : Answer → Flight → TickResult
-refused_of answer f = record {
-  report = record { answer = answer; alpha_rad = zero; beta_rad = zero; thrust_n = zero };
+unfoldable pub refused_of : Refusal → Flight → TickResult
+refused_of refusal f = record {
+  report = record { answer = Err refusal; alpha_rad = zero; beta_rad = zero; thrust_n = zero };
   flight = f;
 }
 

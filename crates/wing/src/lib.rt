@@ -12,7 +12,7 @@ ghost use Rattle.wing.specs.Tick as TickOf;
 
 use air::DensityTable;
 use airframe::{Airframe, LagConstants};
-use answers::Answer;
+use answers::{Answer, Refusal};
 use body::{Body, Loads, MassProperties, Wrench};
 use fixed_wing::FixedWingModel;
 use flight::{Flight, Tick};
@@ -86,7 +86,7 @@ pub fn tick(a: Airframe, f: Flight, t: Tick) -> TickResult
         let lags = begin(a, t.step_s, &tables.powers);
         return tick_accepted(a, f, t, lags, &tables);
     }
-    refused(Answer::NumberOutOfRange(place), f)
+    refused(Refusal::NumberOutOfRange(place), f)
 }
 
 // The same of an airframe that is accepted, with the lag factors of the tick's step: the tests 7, 8, 10 and 9.
@@ -104,7 +104,7 @@ pub fn tick_accepted(
     if f.is_inside() {
         return tick_inside(a, f, t, lags, tables);
     }
-    refused(Answer::StateOutside, f)
+    refused(Refusal::StateOutside, f)
 }
 
 // The same from a state inside the envelope: the tests 8, 10 and 9.
@@ -124,9 +124,9 @@ pub fn tick_inside(
         if wind_usable(t.wind_ned_mps) {
             return unless_departed(f, next_with(a, f, t, lags, tables));
         }
-        return refused(Answer::WindUnusable, f);
+        return refused(Refusal::WindUnusable, f);
     }
-    refused(Answer::StepOutside, f)
+    refused(Refusal::StepOutside, f)
 }
 
 // Whether the wind is one to fly in: each component is a number from -200 to 200 m/s (02, 1).
@@ -137,11 +137,11 @@ fn wind_usable(wind_ned_mps: Vec3) -> bool
 }
 
 // A refusal: the state as it was given, and zeros.
-pub fn refused(answer: Answer, f: Flight) -> TickResult
-    ensures { result ≡ TickOf.refused_of answer f }
+pub fn refused(refusal: Refusal, f: Flight) -> TickResult
+    ensures { result ≡ TickOf.refused_of refusal f }
 {
     let report = Report {
-        answer,
+        answer: Err(refusal),
         alpha_rad: 0.0,
         beta_rad: 0.0,
         thrust_n: 0.0,
@@ -157,7 +157,7 @@ fn unless_departed(f: Flight, n: TickResult) -> TickResult
     if g.is_inside() {
         return n;
     }
-    refused(Answer::Departure, f)
+    refused(Refusal::Departure, f)
 }
 
 // The lag factors of a step.
@@ -413,9 +413,8 @@ fn stepped(
     let body = before.step(mass, loaded.loads, step_s);
     let scales = f.thrust_scale;
     let flight = Flight::of(body, motors, servos, scales, lift_motors);
-    let answer = Answer::Done;
     let report = Report {
-        answer,
+        answer: Ok(()),
         alpha_rad: loaded.alpha_rad,
         beta_rad: loaded.beta_rad,
         thrust_n: loaded.thrust_n,

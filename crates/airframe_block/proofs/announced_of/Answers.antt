@@ -5,7 +5,7 @@ use Rattle.airframe_block.specs.Block.{announced_by}
 use Rattle.airframe_block.proofs.announced_of.Goals as goal
 
 pub announced-requires : goal.announced-requires
-announced-requires c = small-header _ _ _ c.header_of-h.ensures
+announced-requires c = small-header _ _ _ c.header_of.ensures
 
 pub returns : goal.returns
-returns c = c.announced.ensures ∙ ap announced_by c.header_of-h.ensures
+returns c = c.announced.ensures ∙ ap announced_by c.header_of.ensures

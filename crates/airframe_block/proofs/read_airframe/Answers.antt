@@ -11,8 +11,8 @@ pub returns-then-n-lt-HEADER_BYTES : goal.returns-then-n-lt-HEADER_BYTES
 unfolding read_airframe_of
 returns-then-n-lt-HEADER_BYTES c = c.refused.ensures ∙ (simp (lt-ltb _ _ c.if-n-lt-HEADER_BYTES.true))
 
-pub announced-said-requires : goal.announced-said-requires
-announced-said-requires c = small-header _ _ _ c.header_of-h.ensures
+pub announced-requires : goal.announced-requires
+announced-requires c = small-header _ _ _ c.header_of-h.ensures
 
 -- the length is not the one announced
 pub returns-then-n-to : goal.returns-then-n-to
@@ -21,26 +21,26 @@ returns-then-n-to c =
     let a = c in
     let h = c in
     by-header _ h.header_of-h.result _ h.if-n-lt-HEADER_BYTES.false h.header_of-h.ensures
-    (by_said _ _ _ _ (sym c.in-Bytes.is ∙ a.announced-said.ensures) (c.refused-then-n-to.ensures ∙ length-refused _ _ _ c.if-n-to.true))
+    (by_said _ _ _ _ (sym c.in-Ok.is ∙ a.announced.ensures) (c.refused-then-n-to.ensures ∙ length-refused _ _ _ c.if-n-to.true))
 
 pub read_body-requires : goal.read_body-requires
 read_body-requires c =
     let said = c in
     let a = c in
-    let n = announced-bytes _ _ (sym a.announced-said.ensures ∙ c.in-Bytes.is) in
+    let n = announced-bytes _ _ (sym a.announced.ensures ∙ c.in-Ok.is) in
     record {
       rows_bound = n.1;
       bytes_within = omega (arith, c.if-n-to.false, n.0);
     }
 
 -- the header is refused
-pub returns-in-Refused : goal.returns-in-Refused
-returns-in-Refused c =
+pub returns-in-Err : goal.returns-in-Err
+returns-in-Err c =
     let said = c in
     let a = c in
     let h = c in
     by-header _ h.header_of-h.result _ h.if-n-lt-HEADER_BYTES.false h.header_of-h.ensures
-    (by_said _ _ _ _ (sym said.in-Refused.is ∙ a.announced-said.ensures) (c.refused-in-Refused.ensures ∙ header_refused _ _ _))
+    (by_said _ _ _ _ (sym said.in-Err.is ∙ a.announced.ensures) (c.refused-in-Err.ensures ∙ header_refused _ _ _))
 
 -- the rest is read
 pub returns-else-n-to : goal.returns-else-n-to
@@ -49,4 +49,4 @@ returns-else-n-to c =
     let a = c in
     let h = c in
     by-header _ h.header_of-h.result _ h.if-n-lt-HEADER_BYTES.false h.header_of-h.ensures
-    (by_said _ _ _ _ (sym c.in-Bytes.is ∙ a.announced-said.ensures) (c.read_body.ensures ∙ length-read _ _ _ c.if-n-to.false))
+    (by_said _ _ _ _ (sym c.in-Ok.is ∙ a.announced.ensures) (c.read_body.ensures ∙ length-read _ _ _ c.if-n-to.false))

@@ -4,4 +4,4 @@ use Rattle.airframe_block.proofs.refused.Goals as goal
 
 pub returns : goal.returns
 unfolding refused_airframe
-returns c = simp c.zero-airframe.ensures
+returns c = simp c.zero.ensures

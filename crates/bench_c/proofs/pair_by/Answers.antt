@@ -1,16 +1,17 @@
 -- `bench_c::pair_by` meets its contract. Assumes nothing.
 use mathlib.Core.Path.{◌∙◌, sym}
+use Rattle.answers.proofs.Numbers.{done-is-ok}
 use borrow.Author.Tests.{eqb-false}
 use native.Mathlib.Nat.{suc-ne-zero}
 use Rattle.bench_c.proofs.Pair.{ended-mirror, ended-number}
 use Rattle.bench_c.specs.Library.{run_result_by, reflected_by}
 use Rattle.bench_c.proofs.pair_by.Goals as goal
 
-pub returns-then-is_done : goal.returns-then-is_done
+pub returns-then-is_ok : goal.returns-then-is_ok
 unfolding run_result_by reflected_by
-returns-then-is_done c =
+returns-then-is_ok c =
     let k = c in
-    let d = sym c.is_done.ensures ∙ c.if-is_done.true in
+    let d = done-is-ok _ ∙ sym c.is_ok.ensures.value ∙ c.if-is_ok.true in
     let w = sym k.is_whole.ensures ∙ k.if-is_whole.true in
     let p = c.mirrored_pair.ensures in
     record { first = p.first ∙ simp (d, w); second = p.second ∙ simp (d, w); ends = p.ends; theorem = λ z. p.demand3 }
@@ -19,7 +20,7 @@ pub returns-then-is_whole : goal.returns-then-is_whole
 unfolding run_result_by reflected_by
 returns-then-is_whole c =
     let k = c in
-    let d = sym c.is_done.ensures ∙ c.if-is_done.false in
+    let d = done-is-ok _ ∙ sym c.is_ok.ensures.value ∙ c.if-is_ok.false in
     let w = sym k.is_whole.ensures ∙ k.if-is_whole.true in
     let p = c.ended_pair.ensures in
     record {

@@ -1,16 +1,17 @@
 -- `bench_c::store_if_accepted` meets its contract. Assumes nothing.
 use mathlib.Core.Path.{◌∙◌, sym}
+use Rattle.answers.proofs.Numbers.{done-is-ok}
 use Rattle.bench_c.specs.Library.{state_after_tick}
 use Rattle.bench_c.proofs.store_if_accepted.Goals as goal
 
-pub returns-then-is_done : goal.returns-then-is_done
+pub returns-then-is_ok : goal.returns-then-is_ok
 unfolding state_after_tick
-returns-then-is_done c =
+returns-then-is_ok c =
     simp (
       c.put_flight.ensures,
-      sym c.is_done.ensures ∙ c.if-is_done.true,
+      done-is-ok _ ∙ sym c.is_ok.ensures.value ∙ c.if-is_ok.true,
     )
 
-pub returns-else-is_done : goal.returns-else-is_done
+pub returns-else-is_ok : goal.returns-else-is_ok
 unfolding state_after_tick
-returns-else-is_done c = simp (sym c.is_done.ensures ∙ c.if-is_done.false)
+returns-else-is_ok c = simp (done-is-ok _ ∙ sym c.is_ok.ensures.value ∙ c.if-is_ok.false)

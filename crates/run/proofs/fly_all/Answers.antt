@@ -5,7 +5,7 @@ use mathlib.Core.List.{foldl-map}
 use mathlib.Core.Path.{◌∙◌, ap, refl, subst, sym}
 use native.Mathlib.Omega.{arith}
 use borrow.Author.Rules.{rules}
-use Rattle.answers.specs.declared.Answer.TheVariants.{Done}
+use Rattle.answers.specs.Answers.{done}
 use Rattle.flight.specs.Envelope.{is_inside}
 use Rattle.trace.proofs.Trace.{after-all, after_more}
 use Rattle.trace.specs.Trace.{tick_at, ticks_from, ticks_of}
@@ -89,7 +89,7 @@ returns c =
     let start : Progress = record { flight = a.f; accepted = 0 } in
     let trace = a.trace.now in
     c.ended.ensures
-    ∙ ap (λ (p : Progress). ended Done p.flight p.accepted)
+    ∙ ap (λ (p : Progress). ended done p.flight p.accepted)
     (s.loop-i.invariant.3
     ∙ after-all (track_on a.reflect a.a) start trace s.loop-i.i (omega arith) (omega (arith, c.loop-i-test.false))
     ∙ sym (foldl-map (reflected_if a.reflect) (progressed a.a) (ticks_of trace) start))

@@ -4,4 +4,4 @@ use Rattle.state_block.proofs.refused.Goals as goal
 
 pub returns : goal.returns
 unfolding refused_state
-returns c = simp c.zero-flight.ensures
+returns c = simp c.zero.ensures

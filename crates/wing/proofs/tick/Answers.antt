@@ -4,7 +4,7 @@ use lib.Dec.{eqb}
 use mathlib.Core.Bool.{false}
 use mathlib.Core.Path.{◌∙◌, ◌≡◌, ap, sym}
 use Rattle.airframe.specs.Acceptance.{refused_place}
-use Rattle.answers.specs.declared.Answer.TheVariants.{NumberOutOfRange}
+use Rattle.answers.specs.declared.Refusal.TheVariants.{NumberOutOfRange}
 use Rattle.ordered.proofs.Ordered.{some-eqb}
 use Rattle.wing.specs.Tick.{refused_of, tick_of, tick_with}
 use Rattle.wing.proofs.tick.Goals as goal

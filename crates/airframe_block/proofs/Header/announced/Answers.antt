@@ -34,7 +34,7 @@ pub returns : goal.returns
 unfolding announced_by
 returns c =
     simp (
-      c.bytes-n.ensures,
+      c.bytes.ensures,
       le-ltb _ _ c.if-self-gt-MOST_ROWS.false,
       eq-eqb _ _ c.if-self-ne0.false,
       le-ltb _ _ c.if-self-gt1.false,

@@ -1,6 +1,6 @@
 -- `lines::page::put_end` meets its contract. Assumes nothing.
 use Rattle.std.proofs.Common.{rules}
-use Rattle.answers.specs.declared.Answer.TheVariants.{WrongLength}
+use Rattle.answers.specs.declared.Refusal.TheVariants.{WrongLength}
 use Rattle.lines.specs.Text.{refusal_text}
 use Rattle.lines.proofs.Texts.{as-put, end-cut, end_whole, nothing_put, same_text}
 use Rattle.lines.proofs.page.put_end.Goals as goal
