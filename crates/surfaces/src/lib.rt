@@ -37,10 +37,8 @@ impl Surfaces {
         ensures { result ≡ Surface.move_to self commands factor }
     {
         let mut running = self.running;
-        let mut i = 0usize;
-        while i < 8 {
-            running[i] = lag::approach_saturated(running[i], commands[i], -1.0, 1.0, 0.0, factor);
-            i += 1;
+        for (value, command) in running.iter_mut().zip(commands) {
+            *value = lag::approach_saturated(*value, command, -1.0, 1.0, 0.0, factor);
         }
         self.running = running;
         self
@@ -50,13 +48,9 @@ impl Surfaces {
     pub fn deflection_rad(self, max_deflection_rad: Vec3) -> Vec3
         ensures { result ≡ Surface.deflection_rad self max_deflection_rad }
     {
-        let weights = self.weights;
-        let running = self.running;
         let mut unit = Vec3::zeros();
-        let mut i = 0usize;
-        while i < 8 {
-            unit = unit.add(weights[i].scale(running[i]));
-            i += 1;
+        for (weight, value) in self.weights.iter().zip(self.running) {
+            unit = unit.add(weight.scale(value));
         }
         unit.component_mul(max_deflection_rad)
     }
@@ -66,15 +60,11 @@ impl Surfaces {
 fn factors_of(rows: Rows) -> [Vec3; 8]
     ensures { result ≡ Surface.factors_of rows }
 {
-    let list = rows.rows;
-    let count = rows.live();
     let mut factors = Factors {
         at: [Vec3::zeros(); 8],
     };
-    let mut i = 0usize;
-    while i < count {
-        factors = factors.put(list[i]);
-        i += 1;
+    for row in &rows.rows[..rows.live()] {
+        factors = factors.put(*row);
     }
     factors.at
 }
@@ -115,13 +105,7 @@ pub fn weighed(factors: [Vec3; 8]) -> [Vec3; 8]
         inverse_or_zero(squares.y),
         inverse_or_zero(squares.z),
     );
-    let mut weights = factors;
-    let mut i = 0usize;
-    while i < 8 {
-        weights[i] = weights[i].component_mul(inverse);
-        i += 1;
-    }
-    weights
+    factors.map(|f| f.component_mul(inverse))
 }
 
 // The sums of the squared factors over the slots, axis by axis.
@@ -129,11 +113,8 @@ fn squares_of(factors: [Vec3; 8]) -> Vec3
     ensures { result ≡ Surface.squares_of factors }
 {
     let mut sum = Vec3::zeros();
-    let mut i = 0usize;
-    while i < 8 {
-        let f = factors[i];
+    for f in factors {
         sum = sum.add(f.component_mul(f));
-        i += 1;
     }
     sum
 }
