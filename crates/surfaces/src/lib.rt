@@ -5,6 +5,7 @@ ghost use Rattle.std.specs.Prelude.{◌≡◌};
 ghost use Rattle.surfaces.specs.Surface as Surface;
 
 use mixers::{MixRow, Rows, Slot};
+use std::array;
 use vector::Vec3;
 
 // All 8 servos. An axis takes each of them by its weight, so that servos which stand at their factors deflect it fully.
@@ -33,15 +34,16 @@ impl Surfaces {
     }
 
     // A step of the lag of all 8 servos: a command is held within -1..1, and NaN is 0.
-    pub fn move_to(mut self, commands: [f32; 8], factor: f32) -> Self
+    pub fn move_to(self, commands: [f32; 8], factor: f32) -> Self
         ensures { result ≡ Surface.move_to self commands factor }
     {
-        let mut running = self.running;
-        for (value, command) in running.iter_mut().zip(commands) {
-            *value = lag::approach_saturated(*value, command, -1.0, 1.0, 0.0, factor);
+        let running = array::from_fn(|i| {
+            lag::approach_saturated(self.running[i], commands[i], -1.0, 1.0, 0.0, factor)
+        });
+        Surfaces {
+            weights: self.weights,
+            running,
         }
-        self.running = running;
-        self
     }
 
     // Aileron, elevator and rudder as x, y and z, in rad: the weighed sums times `max_deflection_rad`.
@@ -49,8 +51,8 @@ impl Surfaces {
         ensures { result ≡ Surface.deflection_rad self max_deflection_rad }
     {
         let mut unit = Vec3::zeros();
-        for (weight, value) in self.weights.iter().zip(self.running) {
-            unit = unit.add(weight.scale(value));
+        for (i, weight) in self.weights.iter().enumerate() {
+            unit = unit.add(weight.scale(self.running[i]));
         }
         unit.component_mul(max_deflection_rad)
     }
