@@ -225,10 +225,8 @@ fn slots_inside(values: [f32; 8], low: f32, high: f32) -> bool
     ensures { result ≡ all_pass (Envelope.slot_inside low high values) 8 }
 {
     let mut ok = true;
-    let mut i = 0usize;
-    while i < 8 {
-        ok = ordered::both(ok, float::inside(values[i], low, high));
-        i += 1;
+    for value in values {
+        ok &= float::inside(value, low, high);
     }
     ok
 }
@@ -241,12 +239,10 @@ fn slots_outside(values: [f32; 8], low: f32, high: f32) -> u32
     if slots_inside(values, low, high) {
         return 0;
     }
-    let mut i = 0u32;
-    while i < 8 {
-        if !float::inside(values[i as usize], low, high) {
-            return i + 1;
+    for (i, value) in values.iter().enumerate() {
+        if !float::inside(*value, low, high) {
+            return i as u32 + 1;
         }
-        i += 1;
     }
     0
 }
