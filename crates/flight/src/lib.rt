@@ -269,13 +269,7 @@ impl Flight {
         let servos = slots_inside(positions, MIN_SERVO, MAX_SERVO);
         let scales = slots_inside(thrust_scale, MIN_RUNNING, MAX_RUNNING);
         let lift = slots_inside(lift_running, MIN_RUNNING, MAX_RUNNING);
-        let after_servos = ordered::both(scales, lift);
-        let after_motors = ordered::both(servos, after_servos);
-        let after_rates = ordered::both(motors, after_motors);
-        let after_attitude = ordered::both(rates, after_rates);
-        let after_velocity = ordered::both(attitude, after_attitude);
-        let after_position = ordered::both(velocity, after_velocity);
-        ordered::both(position, after_position)
+        position & velocity & attitude & rates & motors & servos & scales & lift
     }
 }
 
