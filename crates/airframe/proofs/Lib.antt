@@ -3,3 +3,4 @@ pub mod Range
 pub mod Mirror
 pub mod Parts
 pub mod RoundTrip
+pub mod Part

@@ -228,11 +228,9 @@ fn numbers_inside(
     ensures { result ≡ all_pass (Acceptance.inside_from limits numbers.now first) count }
 {
     let mut ok = true;
-    let mut i = 0usize;
-    while i < count {
+    for (i, number) in numbers[first..first + count].iter().enumerate() {
         let limit = limits[first + i];
-        ok = ordered::both(ok, float::inside(numbers[first + i], limit.0, limit.1));
-        i += 1;
+        ok &= float::inside(*number, limit.0, limit.1);
     }
     ok
 }
@@ -251,13 +249,11 @@ fn first_outside(
     if numbers_inside(numbers, limits, first, count) {
         return 0;
     }
-    let mut i = 0usize;
-    while i < count {
+    for (i, number) in numbers[first..first + count].iter().enumerate() {
         let limit = limits[first + i];
-        if !float::inside(numbers[first + i], limit.0, limit.1) {
+        if !float::inside(*number, limit.0, limit.1) {
             return (i + 1) as u32;
         }
-        i += 1;
     }
     0
 }
@@ -283,10 +279,8 @@ fn vectors_inside(vectors: [Vec3; 8], limit: f32) -> bool
     ensures { result ≡ all_pass (Acceptance.slot_vec_inside limit vectors) 8 }
 {
     let mut ok = true;
-    let mut i = 0usize;
-    while i < 8 {
-        ok = ordered::both(ok, vectors[i].is_inside(limit));
-        i += 1;
+    for vector in &vectors {
+        ok &= vector.is_inside(limit);
     }
     ok
 }

@@ -1,12 +1,13 @@
 -- The parts of a block: how many numbers a segment has, where the next one begins, and one iteration of the loops that read numbers and rows. Assumes nothing.
-use Prim.Native.Nat.{◌*◌, ◌+◌, ◌≤◌, ℕ}
+use Prim.Native.Nat.{◌*◌, ◌+◌, ◌<◌, ◌≤◌, suc, zero, ℕ}
 use lib.Ieee.{Float}
-use lib.ListN.{set}
+use lib.ListN.{drop, length, length-set, set, take, take-append-drop}
 use mathlib.Core.Bool.{Bool, cond, false, true}
-use mathlib.Core.List.{List}
+use mathlib.Core.List.{List, ◌++◌}
 use mathlib.Core.Path.{◌∙◌, ◌≡◌, ap, ap₂, refl, subst, sym}
 use native.Mathlib.Numerals.{add-one}
 use native.Mathlib.Omega.{arith}
+use Rattle.std.proofs.lemmas.List.{length-take-le, set-append_left}
 use Rattle.airframe.specs.Numbers.{base_count, base_segment, lift_count, lift_segment, numbers_count, wash_count, wash_segment}
 use Rattle.airframe.specs.declared.numbers.Segment.{Segment}
 use Rattle.mixers.specs.declared.MixRow.{MixRow}
@@ -79,3 +80,23 @@ pub rows_more : (s : List ℕ) (start : ℕ) (rows : List MixRow) (n : ℕ) (out
     → out ≡ put_rows s start rows n → row ≡ row_from s (start + row_bytes * n) → set out n row ≡ put_rows s start rows (n + 1)
 unfolding put_rows
 rows_more s start rows n out row e h = ap₂ (λ (o : List MixRow) (r : MixRow). set o n r) e h ∙ ap (put_rows s start rows) (sym (add-one n))
+
+-- rows put into the first elements of a list
+module _ (s : List ℕ) (start : ℕ) where
+  length-put_rows : (rows : List MixRow) (n : ℕ) → length (put_rows s start rows n) ≡ length rows
+  unfolding put_rows
+  length-put_rows rows zero = refl
+  length-put_rows rows (suc n) = length-set (put_rows s start rows n) n _ ∙ length-put_rows rows n
+
+  rows-before : (rows more : List MixRow) (n : ℕ) → n ≤ length rows → put_rows s start (rows ++ more) n ≡ put_rows s start rows n ++ more
+  unfolding put_rows
+  rows-before rows more zero l = refl
+  rows-before rows more (suc n) l =
+      let long : n < length (put_rows s start rows n) = omega (arith, length-put_rows rows n) in
+      ap (λ (o : List MixRow). set o n (row_from s (start + row_bytes * n))) (rows-before rows more n (omega arith))
+      ∙ set-append_left (put_rows s start rows n) more n _ long
+
+  pub rows-put_first : (rows : List MixRow) (n : ℕ) → n ≤ length rows → put_rows s start (take n rows) n ++ drop n rows ≡ put_rows s start rows n
+  rows-put_first rows n l =
+      sym (rows-before (take n rows) (drop n rows) n (omega (arith, length-take-le n rows l)))
+      ∙ ap (λ (o : List MixRow). put_rows s start o n) (take-append-drop n rows)

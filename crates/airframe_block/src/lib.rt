@@ -145,10 +145,8 @@ fn read_present(
     ensures { result ≡ Block.put_numbers s.now at xs first count }
 {
     let mut out = xs;
-    let mut k = 0usize;
-    while k < count {
+    for k in 0..count {
         out[first + k] = float::read(s, at + block_parts::NUMBER_BYTES * k);
-        k += 1;
     }
     out
 }
@@ -212,10 +210,8 @@ fn read_rows(s: &[u8], start: usize, count: usize) -> Rows
         yaw: 0.0,
     };
     let mut rows = [empty; MOST_ROWS];
-    let mut k = 0usize;
-    while k < count {
-        rows[k] = read_row(s, start + ROW_BYTES * k);
-        k += 1;
+    for (k, row) in rows[..count].iter_mut().enumerate() {
+        *row = read_row(s, start + ROW_BYTES * k);
     }
     Rows { rows, count }
 }
@@ -242,12 +238,10 @@ fn reserved_row(s: &[u8], lift: bool, start: usize, count: usize) -> usize
     requires bytes_within { start + Block.row_bytes * count ≤ length s.now }
     ensures { result ≡ Block.reserved_row s.now lift start count }
 {
-    let mut k = 0usize;
-    while k < count {
+    for k in 0..count {
         if !bits_clear(s[start + ROW_BYTES * k], lift) {
             return k + 1;
         }
-        k += 1;
     }
     0
 }
@@ -278,14 +272,10 @@ fn row_fits(row: MixRow) -> bool
 fn bad_row(rows: Rows) -> usize
     ensures { result ≡ Block.bad_row rows }
 {
-    let list = rows.rows;
-    let count = rows.live();
-    let mut k = 0usize;
-    while k < count {
-        if !row_fits(list[k]) {
+    for (k, row) in rows.rows[..rows.live()].iter().enumerate() {
+        if !row_fits(*row) {
             return k + 1;
         }
-        k += 1;
     }
     0
 }

@@ -10,11 +10,12 @@ ghost use Rattle.mixers.specs.Slots.{at, flag_at};
 ghost use Rattle.arrays.specs.Flight as FlightArray;
 ghost use Rattle.arrays.specs.Airframe as AirframeArray;
 
-use airframe::{Airframe, LagConstants, NUMBERS};
+use airframe::{Airframe, LIFT_FIRST, LagConstants, NUMBERS};
 use body::Body;
 use fixed_wing::ThrustFalloff;
 use flight::{Flight, Tick};
 use motors::{MotorGroup, MotorLayout};
+use std::array;
 use vector::{Quaternion, Vec3};
 
 // How many numbers a state, a tick and a report have.
@@ -60,8 +61,7 @@ const WEIGHTS_AT: usize = TORQUES_AT + 3 * 8;
 
 const LIFT_NUMBERS_AT: usize = WEIGHTS_AT + 3 * 8;
 
-const LIFT_CONSTANT_AT: usize = LIFT_NUMBERS_AT
-    + (airframe::LIFT_TIME_CONSTANT - airframe::LIFT_FIRST);
+const LIFT_CONSTANT_AT: usize = LIFT_NUMBERS_AT + (airframe::LIFT_TIME_CONSTANT - LIFT_FIRST);
 
 const LIFT_PRESENT_AT: usize = LIFT_NUMBERS_AT + airframe::LIFT_COUNT;
 
@@ -221,25 +221,12 @@ fn tick_numbers(t: Tick) -> [f32; TICK_NUMBERS]
     ]
 }
 
-// The numbers into an array of as many.
-fn put_numbers(xs: &mut [f32], numbers: &[f32])
-    requires { length xs.old ≡ length numbers.now }
-    ensures { xs.new ≡ numbers.now }
-{
-    let mut i = 0usize;
-    while i < numbers.len() {
-        xs[i] = numbers[i];
-        i += 1;
-    }
-}
-
 // The state's numbers into an array of as many.
 pub fn put_flight(xs: &mut [f32], f: Flight)
     requires { length xs.old ≡ FlightArray.state_numbers_count }
     ensures { xs.new ≡ FlightArray.flight_numbers f }
 {
-    let numbers = flight_numbers(f);
-    put_numbers(xs, &numbers);
+    xs.copy_from_slice(&flight_numbers(f));
 }
 
 // The tick's numbers into an array of as many.
@@ -247,8 +234,7 @@ pub fn put_tick(xs: &mut [f32], t: Tick)
     requires { length xs.old ≡ FlightArray.tick_numbers_count }
     ensures { xs.new ≡ FlightArray.tick_numbers t }
 {
-    let numbers = tick_numbers(t);
-    put_numbers(xs, &numbers);
+    xs.copy_from_slice(&tick_numbers(t));
 }
 
 // 0 for a zero of either sign, else 1.
@@ -270,15 +256,8 @@ fn numbers_in(xs: &[f32]) -> [f32; NUMBERS]
     ensures { result ≡ AirframeArray.numbers_in xs.now }
 {
     let mut numbers = [0.0; NUMBERS];
-    let mut k = 0usize;
-    while k < airframe::LIFT_FIRST {
-        numbers[k] = xs[k];
-        k += 1;
-    }
-    while k < NUMBERS {
-        numbers[k] = xs[LIFT_NUMBERS_AT + (k - airframe::LIFT_FIRST)];
-        k += 1;
-    }
+    numbers[..LIFT_FIRST].copy_from_slice(&xs[..LIFT_FIRST]);
+    numbers[LIFT_FIRST..].copy_from_slice(&xs[LIFT_NUMBERS_AT..LIFT_PRESENT_AT]);
     numbers
 }
 
@@ -287,13 +266,7 @@ fn flags_in(xs: &[f32], at: usize) -> [bool; 8]
     requires { at + 8 ≤ length xs.now }
     ensures { result ≡ AirframeArray.flags_in xs.now at }
 {
-    let mut flags = [false; 8];
-    let mut k = 0usize;
-    while k < 8 {
-        flags[k] = is_set(xs[at + k]);
-        k += 1;
-    }
-    flags
+    array::from_fn(|k| is_set(xs[at + k]))
 }
 
 // The 8 slots' vectors that stand at `at`.
@@ -301,13 +274,7 @@ fn vecs_in(xs: &[f32], at: usize) -> [Vec3; 8]
     requires { at + 24 ≤ length xs.now }
     ensures { result ≡ AirframeArray.vecs_in xs.now at }
 {
-    let mut vecs = [Vec3::zeros(); 8];
-    let mut k = 0usize;
-    while k < 8 {
-        vecs[k] = vec_in(xs, at + 3 * k);
-        k += 1;
-    }
-    vecs
+    array::from_fn(|k| vec_in(xs, at + 3 * k))
 }
 
 // The group of motors whose marks stand at `used_at`, with their torques behind them.
@@ -463,7 +430,7 @@ fn lift_number(a: Airframe, k: usize) -> f32
     let group = lift.motors;
     let torques = group.torque_per_thrust_m;
     if k < LIFT_PRESENT_AT {
-        return number_in(a, airframe::LIFT_FIRST + (k - LIFT_NUMBERS_AT));
+        return number_in(a, LIFT_FIRST + (k - LIFT_NUMBERS_AT));
     }
     if k < LIFT_USED_AT {
         return flag_number(a.lift_present);
@@ -510,9 +477,7 @@ pub fn put_airframe(xs: &mut [f32], a: Airframe)
     requires { length xs.old ≡ AirframeArray.airframe_numbers_count }
     ensures { xs.new ≡ AirframeArray.airframe_numbers a }
 {
-    let mut k = 0usize;
-    while k < AIRFRAME_NUMBERS {
-        xs[k] = airframe_number(a, k);
-        k += 1;
+    for (k, x) in xs.iter_mut().enumerate() {
+        *x = airframe_number(a, k);
     }
 }

@@ -4,6 +4,7 @@
 ghost use Rattle.std.specs.Prelude.{◌≡◌, ◌+◌, ◌≤◌, length};
 ghost use Rattle.block_parts.specs.Parts as Parts;
 
+use std::array;
 use vector::Vec3;
 
 // How many bytes a number, a vector and the 8 slots' numbers have.
@@ -29,13 +30,7 @@ pub fn read_floats(s: &[u8], at: usize) -> [f32; 8]
     requires { at + Parts.slots_bytes ≤ length s.now }
     ensures { result ≡ Parts.floats_from s.now at }
 {
-    let mut xs = [0.0; 8];
-    let mut k = 0usize;
-    while k < 8 {
-        xs[k] = float::read(s, at + NUMBER_BYTES * k);
-        k += 1;
-    }
-    xs
+    array::from_fn(|k| float::read(s, at + NUMBER_BYTES * k))
 }
 
 // Writes the vector's three numbers at `at`.
@@ -53,9 +48,7 @@ pub fn write_floats(s: &mut [u8], at: usize, xs: [f32; 8])
     requires { at + Parts.slots_bytes ≤ length s.old }
     ensures { s.new ≡ Parts.put_floats s.old at xs 8 }
 {
-    let mut k = 0usize;
-    while k < 8 {
-        float::write(s, at + NUMBER_BYTES * k, xs[k]);
-        k += 1;
+    for (k, x) in xs.iter().enumerate() {
+        float::write(s, at + NUMBER_BYTES * k, *x);
     }
 }

@@ -225,10 +225,8 @@ fn slots_inside(values: [f32; 8], low: f32, high: f32) -> bool
     ensures { result ≡ all_pass (Envelope.slot_inside low high values) 8 }
 {
     let mut ok = true;
-    let mut i = 0usize;
-    while i < 8 {
-        ok = ordered::both(ok, float::inside(values[i], low, high));
-        i += 1;
+    for value in values {
+        ok &= float::inside(value, low, high);
     }
     ok
 }
@@ -241,12 +239,10 @@ fn slots_outside(values: [f32; 8], low: f32, high: f32) -> u32
     if slots_inside(values, low, high) {
         return 0;
     }
-    let mut i = 0u32;
-    while i < 8 {
-        if !float::inside(values[i as usize], low, high) {
-            return i + 1;
+    for (i, value) in values.iter().enumerate() {
+        if !float::inside(*value, low, high) {
+            return i as u32 + 1;
         }
-        i += 1;
     }
     0
 }
@@ -273,13 +269,7 @@ impl Flight {
         let servos = slots_inside(positions, MIN_SERVO, MAX_SERVO);
         let scales = slots_inside(thrust_scale, MIN_RUNNING, MAX_RUNNING);
         let lift = slots_inside(lift_running, MIN_RUNNING, MAX_RUNNING);
-        let after_servos = ordered::both(scales, lift);
-        let after_motors = ordered::both(servos, after_servos);
-        let after_rates = ordered::both(motors, after_motors);
-        let after_attitude = ordered::both(rates, after_rates);
-        let after_velocity = ordered::both(attitude, after_attitude);
-        let after_position = ordered::both(velocity, after_velocity);
-        ordered::both(position, after_position)
+        position & velocity & attitude & rates & motors & servos & scales & lift
     }
 }
 

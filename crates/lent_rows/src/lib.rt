@@ -74,10 +74,8 @@ pub fn fill_from_slice(rows: &[MixRow], start: Mix) -> Mix
     ensures { result ≡ mix_from start rows.now }
 {
     let mut m = start;
-    let mut i = 0usize;
-    while i < rows.len() {
-        m = m.put(rows[i]);
-        i += 1;
+    for row in rows {
+        m = m.put(*row);
     }
     m
 }

@@ -5,6 +5,7 @@ ghost use Rattle.std.specs.Prelude.{◌≡◌};
 ghost use Rattle.surfaces.specs.Surface as Surface;
 
 use mixers::{MixRow, Rows, Slot};
+use std::array;
 use vector::Vec3;
 
 // All 8 servos. An axis takes each of them by its weight, so that servos which stand at their factors deflect it fully.
@@ -33,30 +34,25 @@ impl Surfaces {
     }
 
     // A step of the lag of all 8 servos: a command is held within -1..1, and NaN is 0.
-    pub fn move_to(mut self, commands: [f32; 8], factor: f32) -> Self
+    pub fn move_to(self, commands: [f32; 8], factor: f32) -> Self
         ensures { result ≡ Surface.move_to self commands factor }
     {
-        let mut running = self.running;
-        let mut i = 0usize;
-        while i < 8 {
-            running[i] = lag::approach_saturated(running[i], commands[i], -1.0, 1.0, 0.0, factor);
-            i += 1;
+        let running = array::from_fn(|i| {
+            lag::approach_saturated(self.running[i], commands[i], -1.0, 1.0, 0.0, factor)
+        });
+        Surfaces {
+            weights: self.weights,
+            running,
         }
-        self.running = running;
-        self
     }
 
     // Aileron, elevator and rudder as x, y and z, in rad: the weighed sums times `max_deflection_rad`.
     pub fn deflection_rad(self, max_deflection_rad: Vec3) -> Vec3
         ensures { result ≡ Surface.deflection_rad self max_deflection_rad }
     {
-        let weights = self.weights;
-        let running = self.running;
         let mut unit = Vec3::zeros();
-        let mut i = 0usize;
-        while i < 8 {
-            unit = unit.add(weights[i].scale(running[i]));
-            i += 1;
+        for (i, weight) in self.weights.iter().enumerate() {
+            unit = unit.add(weight.scale(self.running[i]));
         }
         unit.component_mul(max_deflection_rad)
     }
@@ -66,15 +62,11 @@ impl Surfaces {
 fn factors_of(rows: Rows) -> [Vec3; 8]
     ensures { result ≡ Surface.factors_of rows }
 {
-    let list = rows.rows;
-    let count = rows.live();
     let mut factors = Factors {
         at: [Vec3::zeros(); 8],
     };
-    let mut i = 0usize;
-    while i < count {
-        factors = factors.put(list[i]);
-        i += 1;
+    for row in &rows.rows[..rows.live()] {
+        factors = factors.put(*row);
     }
     factors.at
 }
@@ -115,13 +107,7 @@ pub fn weighed(factors: [Vec3; 8]) -> [Vec3; 8]
         inverse_or_zero(squares.y),
         inverse_or_zero(squares.z),
     );
-    let mut weights = factors;
-    let mut i = 0usize;
-    while i < 8 {
-        weights[i] = weights[i].component_mul(inverse);
-        i += 1;
-    }
-    weights
+    factors.map(|f| f.component_mul(inverse))
 }
 
 // The sums of the squared factors over the slots, axis by axis.
@@ -129,11 +115,8 @@ fn squares_of(factors: [Vec3; 8]) -> Vec3
     ensures { result ≡ Surface.squares_of factors }
 {
     let mut sum = Vec3::zeros();
-    let mut i = 0usize;
-    while i < 8 {
-        let f = factors[i];
+    for f in factors {
         sum = sum.add(f.component_mul(f));
-        i += 1;
     }
     sum
 }

@@ -1,34 +1,38 @@
 -- `airframe::first_outside` meets its contract. The invariant: the search from the start is the search from here. Assumes nothing.
-use mathlib.Core.Path.{◌∙◌, sym}
+use Prim.Native.Nat.{◌+◌, ◌<◌, ◌≤◌}
 use borrow.Author.Rules.{rules}
-use Rattle.ordered.proofs.Ordered.{fail-end, fail-here, fail-next, from_start, not-false, not-true, pass-none}
-use Rattle.airframe.specs.Acceptance.{inside_from, number_inside}
+use lib.Ieee.{nan}
+use mathlib.Core.Path.{◌∙◌, ap, sym}
+use Rattle.float.specs.Interval.{inside}
+use Rattle.ordered.proofs.Ordered.{fail-end, fail-here, fail-next, pass-none}
+use Rattle.airframe.proofs.Part.{part-at}
+use Rattle.airframe.specs.Acceptance.{inside_from, limits_at, number_inside}
 use Rattle.airframe.proofs.first_outside.Goals as goal
 
 pub returns-then-numbers_inside-clause-value : goal.returns-then-numbers_inside-clause-value
 returns-then-numbers_inside-clause-value c = sym (pass-none _ _ (sym c.numbers_inside.ensures ∙ c.if-numbers_inside.true))
 
-pub loop-i-init : goal.loop-i-init
-loop-i-init c = (search rules, search rules, from_start _ _)
-
-pub returns-then-not-inside : goal.returns-then-not-inside
+pub returns-then-not-inside-clause-value : goal.returns-then-not-inside-clause-value
 unfolding inside_from number_inside
-returns-then-not-inside c =
-    let s = c in record {
-      value = sym (s.loop-i.invariant.2 ∙ fail-here _ s.loop-i.i _ c.loop-i-test.true
-          (sym c.inside.ensures ∙ not-true c.if-not-inside.true-raw));
-      upper_bound = search rules;
-    }
+returns-then-not-inside-clause-value c =
+    let a = c.args in
+    let i = c.loop-i.i in
+    let within : i < a.count = search rules in
+    let limit = limits_at a.limits (a.first + i) in
+    let tested = c.inside.ensures ∙ ap (inside limit.0 limit.1) (part-at nan a.numbers.now a.first a.count i within) in
+    sym (c.loop-i.invariant ∙ fail-here _ i _ within (sym tested ∙ c.if-not-inside.true))
 
 pub loop-i-preserved : goal.loop-i-preserved
 unfolding inside_from number_inside
 loop-i-preserved c =
-    let s = c in (
-      search rules,
-      search rules,
-      s.loop-i.invariant.2 ∙ fail-next _ s.loop-i.i _ c.loop-i-test.true
-          (sym c.inside.ensures ∙ not-false c.if-not-inside.false-raw),
-    )
+    let a = c.args in
+    let i = c.loop-i.i in
+    let within : i < a.count = search rules in
+    let limit = limits_at a.limits (a.first + i) in
+    let tested = c.inside.ensures ∙ ap (inside limit.0 limit.1) (part-at nan a.numbers.now a.first a.count i within) in
+    c.loop-i.invariant ∙ fail-next _ i _ within (sym tested ∙ c.if-not-inside.false)
 
 pub returns-clause-value : goal.returns-clause-value
-returns-clause-value c = sym (c.loop-i.invariant.2 ∙ fail-end _ c.loop-i.i _ c.loop-i-test.false)
+returns-clause-value c =
+    let done : c.args.count ≤ c.loop-i.i = search rules in
+    sym (c.loop-i.invariant ∙ fail-end _ c.loop-i.i _ done)

@@ -1,51 +1,25 @@
--- `arrays::numbers_in` meets its contract: the first loop reads the numbers before the lift rotors', the second theirs. Assumes nothing.
-use borrow.Author.Rules.{rules}
-use Prim.Native.Nat.{ℕ}
-use lib.Ieee.{Float, nan}
-use mathlib.Core.List.{List}
-use mathlib.Core.Path.{ap, refl, sym}
+-- `arrays::numbers_in` meets its contract: the numbers before the lift rotors' are copied, then theirs. Assumes nothing.
+use borrow.Rule.Slice.PartMut.{put_mid}
+use lib.Ieee.{of_bits}
+use lib.ListN.{replicate}
+use mathlib.Core.List.{◌++◌}
+use mathlib.Core.Path.{◌∙◌, ap₂, refl, sym}
 use native.Mathlib.Omega.{arith}
-use Rattle.airframe.specs.Numbers.{numbers_count}
-use Rattle.mixers.proofs.Filling.{reach-end, reach-more, reach-start}
-use Rattle.mixers.specs.Slots.{at}
-use Rattle.arrays.proofs.Numbers.{place-before, place-behind}
-use Rattle.arrays.specs.Airframe.{number_at, numbers_in}
+use Rattle.std.proofs.lemmas.List.{length-take-le}
+use Rattle.airframe.specs.Numbers.{lift_count, lift_first}
+use Rattle.float.specs.Notation.{zero}
+use Rattle.arrays.proofs.Numbers.{places-copied}
 use Rattle.arrays.proofs.numbers_in.Goals as goal
 
--- number j of those by place
-abbrev number : List Float → ℕ → Float
-number xs j = at xs (number_at j)
+pub slice_bounds-copy_from_slice-end-2 : goal.slice_bounds-copy_from_slice-end-2
+slice_bounds-copy_from_slice-end-2 c = sym (length-take-le lift_first c.args.xs.now (omega (arith, c.requires)))
 
-pub loop-k-init : goal.loop-k-init
-loop-k-init c = (search rules, reach-start _ _ _ _ (search rules))
-
-pub loop-k-preserved : goal.loop-k-preserved
-loop-k-preserved c =
-    let s = c in
-    let k = s.loop-k.k in
-    let before = c.loop-k-test.true in (
-      search rules,
-      reach-more numbers_count nan _ _ s.loop-k.numbers k _ (ap (at s.args.xs.now) (sym (place-before k before)))
-          (omega arith) s.loop-k.invariant.1,
-    )
-
-pub loop-k-2-init : goal.loop-k-2-init
-loop-k-2-init c =
-    let r = c.loop-k.invariant.1 in
-    (c.loop-k-test.false, record { short = r.short; long = r.long; done = r.done; left = λ j l. refl })
-
-pub loop-k-2-preserved : goal.loop-k-2-preserved
-loop-k-2-preserved c =
-    let s = c in
-    let k = s.loop-k-2.k in
-    let behind = s.loop-k-2.invariant.0 in (
-      search rules,
-      reach-more numbers_count nan _ _ s.loop-k-2.numbers k _
-          (ap (at s.args.xs.now) (sym (place-behind k behind))) c.loop-k-2-test.true s.loop-k-2.invariant.1,
-    )
+pub copy_from_slice-requires : goal.copy_from_slice-requires
+copy_from_slice-requires c = sym (length-take-le lift_first c.args.xs.now (omega (arith, c.requires)))
 
 pub returns : goal.returns
-unfolding numbers_in
+unfolding of_bits
 returns c =
-    let s = c in reach-end numbers_count nan _ _ s.loop-k-2.numbers s.loop-k-2.k s.loop-k-2.invariant.1
-    (λ k l m. absurd (omega (arith, l, m, c.loop-k-2-test.false)))
+    let none = replicate lift_count zero in
+    ap₂ (λ base lift. put_mid lift_first lift_count (base ++ none) lift) c.copy_from_slice.ensures.after c.copy_from_slice-2.ensures.after
+    ∙ places-copied c.args.xs.now none c.requires refl

@@ -11,11 +11,10 @@ loop-k-init c = reach-start _ _ _ _ (search rules)
 
 pub loop-k-preserved : goal.loop-k-preserved
 loop-k-preserved c =
-    let s = c in reach-more airframe_numbers_count nan _ _ s.loop-k.xs s.loop-k.k c.airframe_number.result
-    c.airframe_number.ensures c.loop-k-test.true s.loop-k.invariant
+    reach-more airframe_numbers_count nan _ _ c.loop-k.xs c.loop-k.k c.airframe_number.result c.airframe_number.ensures (search rules) c.loop-k.invariant
 
 pub returns : goal.returns
 unfolding airframe_numbers
 returns c =
-    let s = c in reach-end airframe_numbers_count nan _ _ s.loop-k.xs s.loop-k.k s.loop-k.invariant
-    (λ k l m. absurd (omega (arith, l, m, c.loop-k-test.false)))
+    reach-end airframe_numbers_count nan _ _ c.loop-k.xs c.loop-k.k c.loop-k.invariant
+    (λ k l m. absurd (omega (arith, l, m, c.loop-k-test.false, c.requires)))

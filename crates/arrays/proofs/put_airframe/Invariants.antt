@@ -1,5 +1,4 @@
 -- `arrays::put_airframe` meets its contract. Assumes nothing.
-use Prim.Native.Nat.{◌-◌}
 use lib.Ieee.{nan}
 use Rattle.mixers.proofs.Filling.{Reached}
 use Rattle.arrays.specs.Airframe.{airframe_number, airframe_numbers_count}
@@ -7,6 +6,3 @@ use Rattle.arrays.proofs.put_airframe.Given as goal
 
 abbrev pub invariant-loop-k : goal.invariant-loop-k
 invariant-loop-k l = Reached airframe_numbers_count nan (airframe_number l.a) l.initial.xs l.xs l.k
-
-abbrev pub decreases-loop-k : goal.decreases-loop-k
-decreases-loop-k l = airframe_numbers_count - l.k

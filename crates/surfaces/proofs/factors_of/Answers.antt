@@ -1,25 +1,26 @@
 -- `surfaces::factors_of` meets its contract: after i iterations the first i rows are put. Assumes nothing.
+use borrow.Author.Rules.{rules}
 use mathlib.Core.Path.{◌∙◌, ap}
 use native.Mathlib.Nat.{le_antisymm}
-use borrow.Author.Rules.{rules}
-use Rattle.mixers.proofs.Putting.{put-more}
+use Rattle.mixers.proofs.Putting.{put-more, put-taken}
 use Rattle.mixers.specs.Rows.{put_to}
 use Rattle.surfaces.specs.Surface.{factors_of, no_factors, put_servo_row}
 use Rattle.surfaces.specs.declared.Factors.{Factors}
 use Rattle.surfaces.proofs.factors_of.Goals as goal
 
-pub loop-i-init : goal.loop-i-init
+pub loop-row-init : goal.loop-row-init
 unfolding put_to
-loop-i-init c = (search rules, search rules, rw c.zeros.ensures)
+loop-row-init c = rw c.zeros.ensures
 
-pub loop-i-preserved : goal.loop-i-preserved
-loop-i-preserved c =
-    let s = c in
-    (search rules, search rules, put-more _ _ _ s.loop-i.i _ _ s.loop-i.invariant.2 c.put-factors.ensures)
+pub loop-row-preserved : goal.loop-row-preserved
+loop-row-preserved c = put-more _ _ _ c.loop-row.row-index _ _ c.loop-row.invariant c.put-factors.ensures
 
 pub returns : goal.returns
 unfolding factors_of
 returns c =
-    let s = c in
-    ap (λ (f : Factors). f.at) (s.loop-i.invariant.2 ∙ ap (put_to put_servo_row no_factors s.args.rows.rows)
-    (le_antisymm s.loop-i.invariant.0 c.loop-i-test.false ∙ s.live-count.ensures.value))
+    ap (λ (f : Factors). f.at) (
+    c.loop-row.invariant
+    ∙ ap (put_to put_servo_row no_factors _) (le_antisymm c.loop-row.auto.row-index-end c.loop-row-test.false)
+    ∙ put-taken put_servo_row no_factors c.args.rows.rows c.live.result (search rules)
+    ∙ ap (put_to put_servo_row no_factors c.args.rows.rows) c.live.ensures.value
+    )
