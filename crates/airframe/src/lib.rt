@@ -4,13 +4,13 @@
 
 mod numbers;
 
-ghost use Rattle.std.specs.Prelude.{◌≡◌, ◌+◌, ◌≤◌};
+ghost use Rattle.std.specs.Prelude.{IfSome, ◌<◌, ◌≡◌, ◌+◌, ◌≤◌};
 ghost use Rattle.airframe.specs.Acceptance as Acceptance;
 ghost use Rattle.airframe.specs.Promises as Promises;
 ghost use Rattle.airframe.specs.Numbers as Numbers;
 ghost use Rattle.airframe.specs.Reflection as Reflection;
 ghost use Rattle.ordered.specs.Ordered.{all_pass};
-ghost use Rattle.ordered.specs.Ordered.{first_fail};
+ghost use Rattle.ordered.specs.Ordered.{first_fail, unless_zero};
 
 use fixed_wing::{FixedWingModel, ThrustFalloff};
 use motors::MotorGroup;
@@ -109,10 +109,10 @@ const LIMITS: [Limits; NUMBERS] = [
 ];
 
 impl Airframe {
-    // The lowest place whose number is out of range, 0 where the airframe is accepted. Its rows' factors are not in it: whether they
-    // all fit is handed in.
-    pub fn lowest_place(self, rows_fit: bool) -> u32
-        ensures { result ≡ Acceptance.lowest_place rows_fit self }
+    // The lowest place whose number is out of range, none where the airframe is accepted. Its rows' factors are not in it: whether
+    // they all fit is handed in.
+    pub fn lowest_place(self, rows_fit: bool) -> Option<u32>
+        ensures { result ≡ unless_zero (Acceptance.lowest_place rows_fit self) }
     {
         let m = self.model;
         let falloff = m.thrust_falloff;
@@ -132,13 +132,13 @@ impl Airframe {
             torques,
             weights,
             self.lift_present,
-            lift_torque,
         )
+        .or(lift_torque)
     }
 
     // The same of an airframe that is not of a block: it has no rows.
-    pub fn refused_place(self) -> u32
-        ensures { result ≡ Acceptance.refused_place self }
+    pub fn refused_place(self) -> Option<u32>
+        ensures { result ≡ unless_zero (Acceptance.refused_place self) }
     {
         self.lowest_place(true)
     }
@@ -160,8 +160,7 @@ impl Airframe {
     }
 }
 
-// The lowest place out of range of an airframe's parts, in the order of their places. `lift_torque` is what `lift_torques_outside`
-// says.
+// The lowest place out of range of an airframe's parts, in the order of their places, but for the lift rotors' torques, which come last.
 pub fn first_refused(
     numbers: &[f32; NUMBERS],
     falloff: ThrustFalloff,
@@ -170,9 +169,8 @@ pub fn first_refused(
     torques: [Vec3; 8],
     weights: [Vec3; 8],
     lift_present: bool,
-    lift_torque: u32,
-) -> u32
-    ensures { result ≡ Acceptance.first_refused numbers.now falloff wash_present rows_fit torques weights lift_present lift_torque }
+) -> Option<u32>
+    ensures { result ≡ unless_zero (Acceptance.first_refused numbers.now falloff wash_present rows_fit torques weights lift_present 0) }
 {
     let limits = limits_for(falloff);
     let base = segment_outside(numbers, limits, Segment::base());
@@ -181,26 +179,23 @@ pub fn first_refused(
     let torque = vectors_outside(torques, 100.0, 50);
     let weight = vectors_outside(weights, 101.0, 51);
     let lift = segment_outside(numbers, limits, Segment::lift(lift_present));
-    let lifted = ordered::or_else(lift, lift_torque);
-    let made = ordered::or_else(torque, ordered::or_else(weight, lifted));
-    let others = ordered::or_else(rows, made);
-    ordered::or_else(base, ordered::or_else(wash, others))
+    base.or(wash).or(rows).or(torque).or(weight).or(lift)
 }
 
 // Without lift numbers the lift rotors' torques are not tested.
-pub fn lift_torques_outside(present: bool, torques: [Vec3; 8]) -> u32
-    ensures { result ≡ Acceptance.lift_torques_outside present torques }
+pub fn lift_torques_outside(present: bool, torques: [Vec3; 8]) -> Option<u32>
+    ensures { result ≡ unless_zero (Acceptance.lift_torques_outside present torques) }
 {
     if present {
         return vectors_outside(torques, 100.0, 58);
     }
-    0
+    None
 }
 
-fn row_factors_outside(rows_fit: bool) -> u32
-    ensures { result ≡ Acceptance.row_factors_outside rows_fit }
+fn row_factors_outside(rows_fit: bool) -> Option<u32>
+    ensures { result ≡ unless_zero (Acceptance.row_factors_outside rows_fit) }
 {
-    if rows_fit { 0 } else { 49 }
+    if rows_fit { None } else { Some(49) }
 }
 
 // The limits by place: a PitchSpeed's least number is 0.1.
@@ -235,35 +230,35 @@ fn numbers_inside(
     ok
 }
 
-// The first of them outside its limits, counted from 1; 0 for none.
+// The first of them outside its limits, counted from 1.
 fn first_outside(
     numbers: &[f32; NUMBERS],
     limits: [Limits; NUMBERS],
     first: usize,
     count: usize,
-) -> u32
+) -> Option<u32>
     requires { first + count ≤ Numbers.numbers_count }
-    ensures value { result ≡ first_fail (Acceptance.inside_from limits numbers.now first) 0 count }
-    ensures upper_bound { result ≤ Numbers.numbers_count }
+    ensures value { result ≡ unless_zero (first_fail (Acceptance.inside_from limits numbers.now first) 0 count) }
+    ensures upper_bound { IfSome result (λ n. n ≤ Numbers.numbers_count) }
 {
     if numbers_inside(numbers, limits, first, count) {
-        return 0;
+        return None;
     }
     for (i, number) in numbers[first..first + count].iter().enumerate() {
         let limit = limits[first + i];
         if !float::inside(*number, limit.0, limit.1) {
-            return (i + 1) as u32;
+            return Some((i + 1) as u32);
         }
     }
-    0
+    None
 }
 
-// The lowest place of a segment whose number is outside its limits; 0 for none, and where the segment is absent.
-fn segment_outside(numbers: &[f32; NUMBERS], limits: [Limits; NUMBERS], s: Segment) -> u32
+// The lowest place of a segment whose number is outside its limits; an absent segment has none.
+fn segment_outside(numbers: &[f32; NUMBERS], limits: [Limits; NUMBERS], s: Segment) -> Option<u32>
     requires numbers_within { s.first + s.count ≤ Numbers.numbers_count }
     requires place_lower_bound { 1 ≤ s.place }
     requires place_upper_bound { s.place ≤ 1000 }
-    ensures { result ≡ Acceptance.segment_outside limits numbers.now s }
+    ensures { result ≡ unless_zero (Acceptance.segment_outside limits numbers.now s) }
 {
     if s.present {
         return ordered::after(
@@ -271,7 +266,7 @@ fn segment_outside(numbers: &[f32; NUMBERS], limits: [Limits; NUMBERS], s: Segme
             first_outside(numbers, limits, s.first, s.count),
         );
     }
-    0
+    None
 }
 
 // Whether each slot's vector has components of at most `limit` in size.
@@ -285,14 +280,15 @@ fn vectors_inside(vectors: [Vec3; 8], limit: f32) -> bool
     ok
 }
 
-// `place` where a slot's vector has a component larger in size than `limit`, else 0.
-fn vectors_outside(vectors: [Vec3; 8], limit: f32, place: u32) -> u32
-    ensures { result ≡ Acceptance.vectors_outside limit place vectors }
+// `place` where a slot's vector has a component larger in size than `limit`.
+fn vectors_outside(vectors: [Vec3; 8], limit: f32, place: u32) -> Option<u32>
+    requires { 0 < place }
+    ensures { result ≡ unless_zero (Acceptance.vectors_outside limit place vectors) }
 {
     if vectors_inside(vectors, limit) {
-        return 0;
+        return None;
     }
-    place
+    Some(place)
 }
 
 impl Airframe {

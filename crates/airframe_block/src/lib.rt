@@ -3,6 +3,7 @@
 
 ghost use Rattle.std.specs.Prelude.{◌≡◌, ◌+◌, ◌*◌, ◌≤◌, length};
 ghost use Rattle.airframe.specs.Numbers as Numbers;
+ghost use Rattle.ordered.specs.Ordered.{unless_zero};
 ghost use Rattle.mixers.specs.Rows.{most_rows};
 ghost use Rattle.block_parts.specs.Parts.{number_bytes};
 ghost use Rattle.airframe_block.specs.Block as Block;
@@ -232,18 +233,18 @@ fn bits_clear(b: u8, lift: bool) -> bool
     false
 }
 
-// The first of the `count` rows at `start` with a bit set that must be 0, counted from 1; 0 for none.
-fn reserved_row(s: &[u8], lift: bool, start: usize, count: usize) -> usize
+// The first of the `count` rows at `start` with a bit set that must be 0, counted from 1.
+fn reserved_row(s: &[u8], lift: bool, start: usize, count: usize) -> Option<usize>
     requires rows_bound { count ≤ most_rows }
     requires bytes_within { start + Block.row_bytes * count ≤ length s.now }
-    ensures { result ≡ Block.reserved_row s.now lift start count }
+    ensures { result ≡ unless_zero (Block.reserved_row s.now lift start count) }
 {
     for k in 0..count {
         if !bits_clear(s[start + ROW_BYTES * k], lift) {
-            return k + 1;
+            return Some(k + 1);
         }
     }
-    0
+    None
 }
 
 // Whether a row's factor is 0 or of size 0.01 to 10.
@@ -268,16 +269,16 @@ fn row_fits(row: MixRow) -> bool
     false
 }
 
-// The first row with a bad factor, counted from 1; 0 for none.
-fn bad_row(rows: Rows) -> usize
-    ensures { result ≡ Block.bad_row rows }
+// The first row with a bad factor, counted from 1.
+fn bad_row(rows: Rows) -> Option<usize>
+    ensures { result ≡ unless_zero (Block.bad_row rows) }
 {
     for (k, row) in rows.rows[..rows.live()].iter().enumerate() {
         if !row_fits(*row) {
-            return k + 1;
+            return Some(k + 1);
         }
     }
-    0
+    None
 }
 
 // The airframe of the numbers, the header and the rows.
@@ -312,13 +313,12 @@ fn refused(refusal: Refusal) -> AirframeRead
 fn tested(airframe: Airframe, rows: Rows) -> AirframeRead
     ensures { result ≡ Block.tested_block airframe rows }
 {
-    let p = airframe.lowest_place(bad_row(rows) == 0);
-    if p != 0 {
-        return refused(Refusal::NumberOutOfRange(p));
-    }
-    AirframeRead {
-        answer: Ok(()),
-        airframe,
+    match airframe.lowest_place(bad_row(rows).is_none()) {
+        Some(place) => refused(Refusal::NumberOutOfRange(place)),
+        None => AirframeRead {
+            answer: Ok(()),
+            airframe,
+        },
     }
 }
 
@@ -330,7 +330,7 @@ fn read_body(s: &[u8], h: Header) -> AirframeRead
 {
     let start = h.rows_at();
     let count = h.rows;
-    if reserved_row(s, h.lift, start, count) != 0 {
+    if reserved_row(s, h.lift, start, count).is_some() {
         return refused(Refusal::ReservedBit);
     }
     let rows = read_rows(s, start, count);

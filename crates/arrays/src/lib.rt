@@ -6,6 +6,7 @@ ghost use Rattle.std.specs.Prelude.{◌≡◌, ◌+◌, ◌<◌, ◌≤◌, leng
 ghost use Rattle.airframe.specs.Acceptance.{lift_torques_outside, refused_place};
 ghost use Rattle.airframe.specs.Promises.{lag_constants_of};
 ghost use Rattle.airframe.specs.Numbers.{numbers_count, numbers_of};
+ghost use Rattle.ordered.specs.Ordered.{unless_zero};
 ghost use Rattle.mixers.specs.Slots.{at, flag_at};
 ghost use Rattle.arrays.specs.Flight as FlightArray;
 ghost use Rattle.arrays.specs.Airframe as AirframeArray;
@@ -322,10 +323,10 @@ pub fn airframe_in(xs: &[f32]) -> Airframe
     )
 }
 
-// The lowest place out of range of the airframe of an array, by the array's own numbers; 0 where it is accepted.
-pub fn refused_place(xs: &[f32]) -> u32
+// The lowest place out of range of the airframe of an array, by the array's own numbers; none where it is accepted.
+pub fn refused_place(xs: &[f32]) -> Option<u32>
     requires { AirframeArray.airframe_numbers_count ≤ length xs.now }
-    ensures { result ≡ refused_place (AirframeArray.airframe_in xs.now) }
+    ensures { result ≡ unless_zero (refused_place (AirframeArray.airframe_in xs.now)) }
 {
     let numbers = numbers_in(xs);
     let falloff = airframe::falloff_of(kind_of(xs[KIND_AT]), xs[airframe::FALLOFF]);
@@ -342,19 +343,19 @@ pub fn refused_place(xs: &[f32]) -> u32
         torques,
         weights,
         lift_present,
-        lift_torque,
     )
+    .or(lift_torque)
 }
 
 // What is out of range among the lift rotors' torques, which are read only where they are tested.
-fn lift_torques_outside(xs: &[f32], present: bool) -> u32
+fn lift_torques_outside(xs: &[f32], present: bool) -> Option<u32>
     requires { AirframeArray.airframe_numbers_count ≤ length xs.now }
-    ensures { result ≡ lift_torques_outside present (AirframeArray.vecs_in xs.now AirframeArray.lift_torques_at) }
+    ensures { result ≡ unless_zero (lift_torques_outside present (AirframeArray.vecs_in xs.now AirframeArray.lift_torques_at)) }
 {
     if present {
         return airframe::lift_torques_outside(present, vecs_in(xs, LIFT_TORQUES_AT));
     }
-    0
+    None
 }
 
 // The constants of the lags of the airframe of an array.

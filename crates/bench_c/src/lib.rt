@@ -213,15 +213,16 @@ fn ticked_prepared(airframe: &[f32], f: Flight, t: Tick) -> TickResult
     requires { airframe_numbers_count ≤ length airframe.now }
     ensures { result ≡ tick_of (airframe_in airframe.now) f t }
 {
-    let place = arrays::refused_place(airframe);
-    if place == 0 {
-        let tables = Tables::new();
-        let constants = arrays::lag_constants_in(airframe);
-        let lags = wing::lag_factors_from(constants, t.step_s, &tables.powers);
-        let a = arrays::airframe_in(airframe);
-        return wing::tick_accepted(a, f, t, lags, &tables);
+    match arrays::refused_place(airframe) {
+        Some(place) => wing::refused(Refusal::NumberOutOfRange(place), f),
+        None => {
+            let tables = Tables::new();
+            let constants = arrays::lag_constants_in(airframe);
+            let lags = wing::lag_factors_from(constants, t.step_s, &tables.powers);
+            let a = arrays::airframe_in(airframe);
+            wing::tick_accepted(a, f, t, lags, &tables)
+        }
     }
-    wing::refused(Refusal::NumberOutOfRange(place), f)
 }
 
 // Alpha, beta and thrust into their array.

@@ -1,8 +1,8 @@
 // The flight state, body and running values in one record, and what a tick is given.
 #![tactic(auto)]
 
-ghost use Rattle.std.specs.Prelude.{◌≡◌, ◌≤◌};
-ghost use Rattle.ordered.specs.Ordered.{all_pass};
+ghost use Rattle.std.specs.Prelude.{IfSome, ◌≡◌, ◌≤◌};
+ghost use Rattle.ordered.specs.Ordered.{all_pass, unless_zero};
 ghost use Rattle.flight.specs.Envelope as Envelope;
 ghost use Rattle.flight.specs.Reflection as Reflection;
 ghost use Rattle.flight.specs.State as State;
@@ -165,59 +165,56 @@ impl Flight {
         }
     }
 
-    // The first test of the envelope that fails, by its number (01, "Envelope"); 0 where the state is inside.
-    pub fn outside(self) -> u32
-        ensures { result ≡ Envelope.outside_of self }
+    // The first test of the envelope that fails, by its number (01, "Envelope"); none where the state is inside.
+    pub fn outside(self) -> Option<u32>
+        ensures { result ≡ unless_zero (Envelope.outside_of self) }
     {
         let body = self.body();
-        let running = self.motors;
-        let positions = self.servos;
-        let thrust_scale = self.thrust_scale;
-        let lift_running = self.lift_motors;
         let position = vec_outside(body.position_ned_m, MAX_POSITION_M);
         let velocity = ordered::after(3, vec_outside(body.velocity_ned_mps, MAX_VELOCITY_MPS));
         let attitude = ordered::after(6, attitude_outside(body.attitude));
         let rates = ordered::after(7, vec_outside(body.angular_velocity_radps, MAX_RATE_RADPS));
-        let motors = ordered::after(10, slots_outside(running, MIN_RUNNING, MAX_RUNNING));
-        let servos = ordered::after(18, slots_outside(positions, MIN_SERVO, MAX_SERVO));
-        let scales = ordered::after(26, slots_outside(thrust_scale, MIN_RUNNING, MAX_RUNNING));
-        let lift = ordered::after(34, slots_outside(lift_running, MIN_RUNNING, MAX_RUNNING));
-        let after_servos = ordered::or_else(scales, lift);
-        let after_motors = ordered::or_else(servos, after_servos);
-        let after_rates = ordered::or_else(motors, after_motors);
-        let after_attitude = ordered::or_else(rates, after_rates);
-        let after_velocity = ordered::or_else(attitude, after_attitude);
-        let after_position = ordered::or_else(velocity, after_velocity);
-        ordered::or_else(position, after_position)
+        let motors = ordered::after(10, slots_outside(self.motors, MIN_RUNNING, MAX_RUNNING));
+        let servos = ordered::after(18, slots_outside(self.servos, MIN_SERVO, MAX_SERVO));
+        let scales = ordered::after(26, slots_outside(self.thrust_scale, MIN_RUNNING, MAX_RUNNING));
+        let lift = ordered::after(34, slots_outside(self.lift_motors, MIN_RUNNING, MAX_RUNNING));
+        position
+            .or(velocity)
+            .or(attitude)
+            .or(rates)
+            .or(motors)
+            .or(servos)
+            .or(scales)
+            .or(lift)
     }
 }
 
-// 1 where the attitude's N lies outside 0.9..1.1, else 0.
-fn attitude_outside(attitude: Quaternion) -> u32
-    ensures value { result ≡ Envelope.attitude_outside attitude }
-    ensures upper_bound { result ≤ 1 }
+// 1 where the attitude's N lies outside 0.9..1.1.
+fn attitude_outside(attitude: Quaternion) -> Option<u32>
+    ensures value { result ≡ unless_zero (Envelope.attitude_outside attitude) }
+    ensures upper_bound { IfSome result (λ n. n ≤ 1) }
 {
     if float::inside(attitude.norm_squared(), MIN_NORM_SQUARED, MAX_NORM_SQUARED) {
-        return 0;
+        return None;
     }
-    1
+    Some(1)
 }
 
-// Which component is larger in size than `limit`, counted from 1; 0 for none.
-fn vec_outside(v: Vec3, limit: f32) -> u32
-    ensures value { result ≡ Envelope.vec_outside limit v }
-    ensures upper_bound { result ≤ 3 }
+// Which component is larger in size than `limit`, counted from 1.
+fn vec_outside(v: Vec3, limit: f32) -> Option<u32>
+    ensures value { result ≡ unless_zero (Envelope.vec_outside limit v) }
+    ensures upper_bound { IfSome result (λ n. n ≤ 3) }
 {
     if float::inside(v.x, -limit, limit) {
         if float::inside(v.y, -limit, limit) {
             if float::inside(v.z, -limit, limit) {
-                return 0;
+                return None;
             }
-            return 3;
+            return Some(3);
         }
-        return 2;
+        return Some(2);
     }
-    1
+    Some(1)
 }
 
 // Whether each slot's value lies within low..high: no early exit, so that the tests overlap.
@@ -231,20 +228,20 @@ fn slots_inside(values: [f32; 8], low: f32, high: f32) -> bool
     ok
 }
 
-// Which slot's value lies outside low..high, counted from 1; 0 for none.
-fn slots_outside(values: [f32; 8], low: f32, high: f32) -> u32
-    ensures value { result ≡ Envelope.slots_outside low high values }
-    ensures upper_bound { result ≤ 8 }
+// Which slot's value lies outside low..high, counted from 1.
+fn slots_outside(values: [f32; 8], low: f32, high: f32) -> Option<u32>
+    ensures value { result ≡ unless_zero (Envelope.slots_outside low high values) }
+    ensures upper_bound { IfSome result (λ n. n ≤ 8) }
 {
     if slots_inside(values, low, high) {
-        return 0;
+        return None;
     }
     for (i, value) in values.iter().enumerate() {
         if !float::inside(*value, low, high) {
-            return i as u32 + 1;
+            return Some(i as u32 + 1);
         }
     }
-    0
+    None
 }
 
 impl Flight {

@@ -1,13 +1,15 @@
 -- Tests in a row: what a loop over them finds, what it means that none fails, and that rows of equal tests have one answer. Assumes nothing.
 use Prim.Native.Nat.{◌+◌, ◌-◌, ◌<◌, ◌≤◌, suc, zero, ℕ}
 use lib.Dec.{eqb, eqb-suc-zero}
-use mathlib.Core.Bool.{Bool, cond, false, false≢true, not, true}
+use mathlib.Core.Bool.{Bool, cond, false, false≢true, not, true, true≢false}
 use mathlib.Core.Logic.{◌⊎◌, inl, inr}
 use mathlib.Core.Path.{◌∙◌, ◌≡◌, ap, ap₂, refl, sym}
 use native.Mathlib.Nat.{eq-or-lt_of_le, suc-ne-zero, zero-add}
 use native.Mathlib.Numerals.{add-one}
 use native.Mathlib.Omega.{arith}
-use Rattle.ordered.specs.Ordered.{after, all_pass, first_fail, or_else}
+use Rattle.std.specs.Prelude.{Option, Some, None, is_none, is_some}
+use Rattle.std.specs.Option.{option_map, option_or}
+use Rattle.ordered.specs.Ordered.{after, all_pass, first_fail, or_else, unless_zero}
 
 -- ---- a loop over the tests below n, at i
 pub from_start : (ok : ℕ → Bool) (n : ℕ) → first_fail ok 0 n ≡ first_fail ok 0 (n - 0)
@@ -144,6 +146,83 @@ pub after-some : (n f : ℕ) → (f ≡ 0 → ⊥) → after n f ≡ n + f
 unfolding after
 after-some n zero h = absurd (h refl)
 after-some n (suc f) h = rw (eqb-suc-zero f)
+
+-- ---- the same of numbers as options
+pub or-option : (a b : ℕ) → option_or (unless_zero a) (unless_zero b) ≡ unless_zero (or_else a b)
+unfolding unless_zero or_else
+or-option zero b = refl
+or-option (suc a) b = rw (eqb-suc-zero a)
+
+pub or-assoc : (a b c : ℕ) → or_else (or_else a b) c ≡ or_else a (or_else b c)
+unfolding or_else
+or-assoc zero b c = refl
+or-assoc (suc a) b c = rw (eqb-suc-zero a) (rw (eqb-suc-zero a) refl)
+
+-- none before, and none behind
+pub or-last : (b : ℕ) → or_else 0 b ≡ b
+unfolding or_else
+or-last b = refl
+
+pub or-zero-last : (a : ℕ) → or_else a 0 ≡ a
+unfolding or_else
+or-zero-last zero = refl
+or-zero-last (suc a) = rw (eqb-suc-zero a)
+
+pub after-option : (n f : ℕ) → option_map (λ (k : ℕ). n + k) (unless_zero f) ≡ unless_zero (after n f)
+unfolding unless_zero after
+after-option n zero = refl
+after-option n (suc f) = rw (eqb-suc-zero f) (some-sum n f)
+  where
+    more : (n f : ℕ) → n + suc f ≡ suc (n + f)
+    more n f = omega arith
+
+    some-sum : (n f : ℕ) → ◌≡◌ {A = Option ℕ} (Some (n + suc f)) (unless_zero (n + suc f))
+    some-sum n f = ap (λ (k : ℕ). Some k) (more n f) ∙ sym (ap unless_zero (more n f))
+
+pub none-zero : (n : ℕ) → unless_zero n ≡ None → n ≡ 0
+unfolding unless_zero
+none-zero zero e = refl
+none-zero (suc n) e = let z : ◌≡◌ {A = ℕ} 0 1 = cc in absurd (omega arith)
+
+pub some-number : (n p : ℕ) → unless_zero n ≡ Some p → (n ≡ p) × (n ≡ 0 → ⊥)
+unfolding unless_zero
+some-number zero p e = let z : ◌≡◌ {A = ℕ} 0 1 = cc in absurd (omega arith)
+some-number (suc n) p e = (cc, suc-ne-zero n)
+
+pub zero-none : (n : ℕ) → n ≡ 0 → unless_zero n ≡ None
+unfolding unless_zero
+zero-none n e = rw e refl
+
+-- whether there is one
+pub is-some-eqb : (n : ℕ) → is_some (unless_zero n) ≡ not (eqb n 0)
+unfolding unless_zero
+is-some-eqb zero = refl
+is-some-eqb (suc n) = rw (eqb-suc-zero n) refl
+
+pub is-none-eqb : (n : ℕ) → is_none (unless_zero n) ≡ eqb n 0
+unfolding unless_zero
+is-none-eqb zero = refl
+is-none-eqb (suc n) = rw (eqb-suc-zero n) refl
+
+pub none-eqb : (n : ℕ) (o : Option ℕ) (t : Bool) → o ≡ unless_zero n → is_some o ≡ not t → t ≡ eqb n 0
+none-eqb n o t e h = sym (not-not t) ∙ ap not (sym h ∙ ap is_some e ∙ is-some-eqb n) ∙ not-not (eqb n 0)
+
+pub is-some-not-zero : (n : ℕ) → is_some (unless_zero n) ≡ true → n ≡ 0 → ⊥
+is-some-not-zero n e z = false≢true (sym (ap (λ (k : ℕ). is_some (unless_zero k)) z ∙ is-some-eqb 0) ∙ e)
+
+pub not-some-zero : (n : ℕ) → is_some (unless_zero n) ≡ false → n ≡ 0
+unfolding unless_zero
+not-some-zero zero e = refl
+not-some-zero (suc n) e = absurd (true≢false e)
+
+pub here-some : (n i : ℕ) → n ≡ i + 1 → unless_zero n ≡ Some (i + 1)
+unfolding unless_zero
+here-some n i e = rw (e, add-one i) refl
+
+pub some-is : (n : ℕ) → (n ≡ 0 → ⊥) → unless_zero n ≡ Some n
+unfolding unless_zero
+some-is zero h = absurd (h refl)
+some-is (suc n) h = refl
 
 -- a number that is not 0
 pub some-eqb : (n : ℕ) → (n ≡ 0 → ⊥) → eqb n 0 ≡ false

@@ -1,10 +1,15 @@
 -- Tests in a row: the number of the first that fails, counted from 1; 0 where none does. Definitions only.
-use Rattle.std.specs.Prelude.{◌+◌, suc, zero, ℕ, eqb, Bool, cond, false, true, List, [], ◌∷◌}
+use Rattle.std.specs.Prelude.{◌+◌, suc, zero, ℕ, eqb, Bool, cond, false, true, List, [], ◌∷◌, Option, Some, None}
 
 -- the tests with the indexes from i, n of them
 unfoldable pub first_fail : (ℕ → Bool) → ℕ → ℕ → ℕ
 first_fail ok i zero = 0
 first_fail ok i (suc n) = cond (ok i) (first_fail ok (suc i) n) (suc i)
+
+-- the number of a failed test, as the code has it: none for 0
+unfoldable pub unless_zero : ℕ → Option ℕ
+unless_zero zero = None
+unless_zero (suc n) = Some (suc n)
 
 -- one row of tests after another, which has n tests
 unfoldable pub or_else : ℕ → ℕ → ℕ

@@ -50,7 +50,7 @@ fn run_track(a: Airframe, f: Flight, trace: &[u8], reflect: bool) -> RunResult
     ensures { result ≡ Promises.track_result reflect a f trace.now }
 {
     if trace::is_whole(trace) {
-        if a.refused_place() == 0 {
+        if a.refused_place().is_none() {
             if f.is_inside() {
                 return fly_all(a, f, trace, reflect);
             }

@@ -86,7 +86,7 @@ fn refused(refusal: Refusal) -> StateRead
 fn tested(flight: Flight) -> StateRead
     ensures { result ≡ Layout.tested_state flight }
 {
-    if flight.outside() != 0 {
+    if flight.outside().is_some() {
         return refused(Refusal::StateOutside);
     }
     StateRead {

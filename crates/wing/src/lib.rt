@@ -80,13 +80,14 @@ pub struct LagFactors {
 pub fn tick(a: Airframe, f: Flight, t: Tick) -> TickResult
     ensures { result ≡ TickOf.tick_of a f t }
 {
-    let place = a.refused_place();
-    if place == 0 {
-        let tables = Tables::new();
-        let lags = begin(a, t.step_s, &tables.powers);
-        return tick_accepted(a, f, t, lags, &tables);
+    match a.refused_place() {
+        Some(place) => refused(Refusal::NumberOutOfRange(place), f),
+        None => {
+            let tables = Tables::new();
+            let lags = begin(a, t.step_s, &tables.powers);
+            tick_accepted(a, f, t, lags, &tables)
+        }
     }
-    refused(Refusal::NumberOutOfRange(place), f)
 }
 
 // The same of an airframe that is accepted, with the lag factors of the tick's step: the tests 7, 8, 10 and 9.

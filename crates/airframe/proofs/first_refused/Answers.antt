@@ -6,6 +6,7 @@ use native.Mathlib.Omega.{arith}
 use Rattle.airframe.specs.Acceptance.{first_refused}
 use Rattle.airframe.specs.Numbers.{numbers_count}
 use Rattle.airframe.specs.declared.numbers.Segment.{Segment}
+use Rattle.ordered.proofs.Ordered.{or-assoc, or-option, or-zero-last}
 use Rattle.airframe.proofs.first_refused.Goals as goal
 
 -- what `segment_outside` asks of a segment
@@ -35,12 +36,14 @@ returns c =
     let p = c in
     let s = c in
     simp (
-      c.or_else-3.ensures,
-      c.or_else-2.ensures,
-      c.or_else-others.ensures,
-      c.or_else-made.ensures,
-      c.or_else.ensures,
-      c.or_else-lifted.ensures,
+      c.or-5.ensures,
+      c.or-4.ensures,
+      c.or-3.ensures,
+      c.or-2.ensures,
+      c.or.ensures,
+      or-option,
+      or-assoc,
+      or-zero-last,
       p.segment_outside-lift.ensures,
       p.lift.ensures,
       p.vectors_outside-weight.ensures,

@@ -1,6 +1,6 @@
 -- `airframe_block::reserved_row` meets its contract. Assumes nothing.
 use mathlib.Core.Path.{◌∙◌, sym}
-use Rattle.ordered.proofs.Ordered.{fail-end, fail-here, fail-next, from_start}
+use Rattle.ordered.proofs.Ordered.{fail-end, fail-here, fail-next, from_start, here-some, zero-none}
 use Rattle.airframe_block.specs.Block.{reserved_row, row_clear}
 use Rattle.airframe_block.proofs.reserved_row.Goals as goal
 
@@ -10,7 +10,7 @@ loop-k-init c = from_start _ _
 pub returns-then-not-bits_clear : goal.returns-then-not-bits_clear
 unfolding reserved_row row_clear
 returns-then-not-bits_clear c =
-    sym (c.loop-k.invariant ∙ fail-here _ c.loop-k.k _ c.loop-k-test.true (sym c.bits_clear.ensures ∙ c.if-not-bits_clear.true))
+    sym (here-some _ c.loop-k.k (c.loop-k.invariant ∙ fail-here _ c.loop-k.k _ c.loop-k-test.true (sym c.bits_clear.ensures ∙ c.if-not-bits_clear.true)))
 
 pub loop-k-preserved : goal.loop-k-preserved
 unfolding row_clear
@@ -19,4 +19,4 @@ loop-k-preserved c =
 
 pub returns : goal.returns
 unfolding reserved_row
-returns c = sym (c.loop-k.invariant ∙ fail-end _ c.loop-k.k _ c.loop-k-test.false)
+returns c = sym (zero-none _ (c.loop-k.invariant ∙ fail-end _ c.loop-k.k _ c.loop-k-test.false))

@@ -1,6 +1,8 @@
 -- `arrays::refused_place` meets its contract. Assumes nothing.
-use mathlib.Core.Path.{◌∙◌, ◌≡◌, sym}
+use mathlib.Core.Path.{◌∙◌, ◌≡◌, ap, sym}
 use Rattle.float.specs.Lists.{list_from, list_of}
+use Rattle.airframe.proofs.Parts.{last-or}
+use Rattle.ordered.specs.Ordered.{unless_zero}
 use Rattle.arrays.proofs.Numbers.{array-refused, tests}
 use Rattle.arrays.specs.Airframe.{number_at, numbers_in}
 use Rattle.arrays.proofs.refused_place.Goals as goal
@@ -16,8 +18,10 @@ returns c =
     let f = s.before.before in
     let k = f.before.before in
     let xs = k.args.xs.now in
-    let e : c.first_refused.result ≡ tests xs (numbers_in xs) =
+    let e : c.or.result ≡ unless_zero (tests xs (numbers_in xs)) =
     simp (
+      c.or.ensures,
+      last-or,
       c.first_refused.ensures,
       r.lift_torques_outside-lift_torque.ensures,
       p.is_set-lift_present.ensures,
@@ -28,4 +32,4 @@ returns c =
       k.kind_of.ensures,
       k.numbers_in-numbers.ensures,
     ) in
-    e ∙ sym (array-refused xs)
+    e ∙ ap unless_zero (sym (array-refused xs))

@@ -1,5 +1,6 @@
 -- `flight::Flight::outside` meets its contract. Assumes nothing.
 use lib.Ieee.{neg, of_bits, round}
+use Rattle.ordered.proofs.Ordered.{after-option, or-assoc, or-option}
 use Rattle.flight.specs.Envelope.{outside_of}
 use Rattle.flight.proofs.Flight.outside.Goals as goal
 
@@ -7,15 +8,14 @@ pub returns : goal.returns
 unfolding outside_of of_bits round neg
 returns c =
     let p = c in
-    let b = p.before.before.before.before.before.before.before.before in
     simp (
-      c.or_else.ensures,
-      c.or_else-after_position.ensures,
-      c.or_else-after_velocity.ensures,
-      c.or_else-after_attitude.ensures,
-      c.or_else-after_rates.ensures,
-      c.or_else-after_motors.ensures,
-      c.or_else-after_servos.ensures,
+      c.or-7.ensures,
+      c.or-6.ensures,
+      c.or-5.ensures,
+      c.or-4.ensures,
+      c.or-3.ensures,
+      c.or-2.ensures,
+      c.or.ensures,
       p.after-lift.ensures,
       p.slots_outside-4.ensures.value,
       p.after-scales.ensures,
@@ -24,12 +24,15 @@ returns c =
       p.slots_outside-2.ensures.value,
       p.after-motors.ensures,
       p.slots_outside.ensures.value,
-      b.after-rates.ensures,
-      b.vec_outside-2.ensures.value,
-      b.after-attitude.ensures,
-      b.attitude_outside.ensures.value,
-      b.after-velocity.ensures,
-      b.vec_outside.ensures.value,
-      b.vec_outside-position.ensures.value,
-      b.body-body.ensures,
+      p.after-rates.ensures,
+      p.vec_outside-2.ensures.value,
+      p.after-attitude.ensures,
+      p.attitude_outside.ensures.value,
+      p.after-velocity.ensures,
+      p.vec_outside.ensures.value,
+      p.vec_outside-position.ensures.value,
+      p.body-body.ensures,
+      after-option,
+      or-option,
+      or-assoc,
     )
