@@ -1,4 +1,6 @@
 -- `run::run_track` meets its contract. Assumes nothing.
+use borrow.Author.Tests.{eqb-false, eqb-true}
+use Rattle.ordered.proofs.Ordered.{none-eqb}
 use Rattle.trace.specs.Trace.{ticks_of}
 use Rattle.run.specs.Promises.{reflected_if, track_flown, track_result}
 use Rattle.run.specs.Run.{run_result_over, run_of}
@@ -11,7 +13,7 @@ use mathlib.Core.Bool.{false}
 use Rattle.run.proofs.run_track.Goals as goal
 
 pub fly_all-requires-clause-airframe_accepted : goal.fly_all-requires-clause-airframe_accepted
-fly_all-requires-clause-airframe_accepted c = sym c.refused_place.ensures ∙ c.if-refused_place-eq0.true
+fly_all-requires-clause-airframe_accepted c = eqb-true _ _ (sym (none-eqb _ _ _ c.refused_place.ensures c.is_none.ensures) ∙ c.if-is_none.true)
 
 pub fly_all-requires-clause-state_inside : goal.fly_all-requires-clause-state_inside
 fly_all-requires-clause-state_inside c = sym c.is_inside.ensures ∙ c.if-is_inside.true
@@ -22,9 +24,9 @@ returns-then-is_inside c =
     let k = c in
     rw (sym k.is_whole.ensures ∙ k.if-is_whole.true) c.fly_all.ensures
 
-pub returns-then-refused_place-eq0 : goal.returns-then-refused_place-eq0
+pub returns-then-is_none : goal.returns-then-is_none
 unfolding track_result run_result_over run_of
-returns-then-refused_place-eq0 c =
+returns-then-is_none c =
     let k = c in
     let a = k.args in
     let o : is_inside a.f ≡ false = sym c.is_inside.ensures ∙ c.if-is_inside.false in
@@ -38,7 +40,7 @@ unfolding track_result run_result_over run_of
 returns-then-is_whole c =
     let k = c in
     let a = k.args in
-    let n : refused_place a.a ≡ 0 → ⊥ = λ e. c.if-refused_place-eq0.false (c.refused_place.ensures ∙ e) in
+    let n : refused_place a.a ≡ 0 → ⊥ = eqb-false _ _ (sym (none-eqb _ _ _ c.refused_place.ensures c.is_none.ensures) ∙ c.if-is_none.false) in
     rw (
       sym k.is_whole.ensures ∙ k.if-is_whole.true,
       refused-run a.a (record { flight = a.f; accepted = 0 }) (map (reflected_if a.reflect) (ticks_of a.trace.now)) n,
