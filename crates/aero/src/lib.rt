@@ -5,10 +5,9 @@ ghost use Rattle.std.specs.Prelude.{◌≡◌};
 ghost use Rattle.aero.specs.Coefficients as Coefficients;
 ghost use Rattle.aero.specs.Wrench as Wrench;
 ghost use Rattle.book.specs.Numbers as Numbers;
-ghost use Rattle.libm.specs.Powers.{powers_of_two};
 
 use fixed_wing::{AeroCoefficients, FixedWingModel};
-use libm::POWER_COUNT;
+use libm::PowerTable;
 use tailsitter_model::Wash;
 use vector::Vec3;
 
@@ -52,9 +51,8 @@ pub fn wrench(
     deflection_rad: Vec3,
     wash: Wash,
     density_kgpm3: f32,
-    powers: &[f32; POWER_COUNT],
+    powers: &PowerTable,
 ) -> Aero
-    requires { powers.now ≡ powers_of_two }
     ensures { result ≡ Wrench.aero_wrench model air_mps rates_radps deflection_rad wash density_kgpm3 }
 {
     let speed_mps = air_mps.norm();
@@ -150,9 +148,8 @@ fn flow_of(
     model: FixedWingModel,
     air_mps: Vec3,
     density_kgpm3: f32,
-    powers: &[f32; POWER_COUNT],
+    powers: &PowerTable,
 ) -> Flow
-    requires { powers.now ≡ powers_of_two }
     ensures { result ≡ Wrench.flow_of model air_mps density_kgpm3 }
 {
     let c = model.aero;
@@ -349,8 +346,7 @@ fn pressure_area_n(model: FixedWingModel, speed_mps: f32, density_kgpm3: f32) ->
 }
 
 // The stall blend: near 0 between the two stall angles, near 1 beyond them.
-pub fn stall_blend(c: AeroCoefficients, alpha_rad: f32, powers: &[f32; POWER_COUNT]) -> f32
-    requires { powers.now ≡ powers_of_two }
+pub fn stall_blend(c: AeroCoefficients, alpha_rad: f32, powers: &PowerTable) -> f32
     ensures { result ≡ Coefficients.stall_blend c alpha_rad }
 {
     let past_positive = exponent(-c.stall_sharpness * (alpha_rad - c.alpha_stall_rad), powers);
@@ -358,8 +354,7 @@ pub fn stall_blend(c: AeroCoefficients, alpha_rad: f32, powers: &[f32; POWER_COU
     (1.0 + past_positive + past_negative) / ((1.0 + past_positive) * (1.0 + past_negative))
 }
 
-fn exponent(x: f32, powers: &[f32; POWER_COUNT]) -> f32
-    requires { powers.now ≡ powers_of_two }
+fn exponent(x: f32, powers: &PowerTable) -> f32
     ensures { result ≡ Coefficients.exponent x }
 {
     libm::expf_with(

@@ -74,23 +74,29 @@ const TABLE: [f32; ROW_COUNT] = [
     0.7361, // 5000 m
 ];
 
-// The table. Naming a const array copies it: build once, pass by reference.
-pub fn densities() -> [f32; ROW_COUNT]
-    ensures { result ≡ Density.densities }
+// The table, of which it is known that it is the atmosphere's. It is made once and lent: naming a const array copies it.
+#[derive(Drop)]
+pub struct DensityTable {
+    pub table: [f32; ROW_COUNT],
+    pub ghost is_atmosphere: { table ≡ Density.densities },
+}
+
+// The table made.
+pub fn densities() -> DensityTable
+    ensures { result.table ≡ Density.densities }
 {
-    TABLE
+    DensityTable { table: TABLE }
 }
 
 // The density at a height in m, with the table lent: the end's value at an end of the table and beyond it, NaN for a NaN.
-pub fn density_with(height_m: f32, densities: &[f32; ROW_COUNT]) -> f32
-    requires { densities.now ≡ Density.densities }
+pub fn density_with(height_m: f32, densities: &DensityTable) -> f32
     ensures { result ≡ Density.density_at height_m }
 {
     if height_m <= -1000.0 {
-        return densities[0];
+        return densities.table[0];
     }
     if height_m >= 5000.0 {
-        return densities[LAST_ROW];
+        return densities.table[LAST_ROW];
     }
     if height_m != height_m {
         return height_m;
@@ -116,9 +122,8 @@ fn row_height(row: u32) -> f32
 
 // The density at a height between the table's ends, by the highest row that is not above it. The sum and the quotient are rounded, so
 // that the first guess may be one row too high.
-fn within_table(height_m: f32, densities: &[f32; ROW_COUNT]) -> f32
-    requires height_inside { Promises.Inside height_m }
-    requires densities_table { densities.now ≡ Density.densities }
+fn within_table(height_m: f32, densities: &DensityTable) -> f32
+    requires { Promises.Inside height_m }
     ensures { result ≡ Density.between (Density.row_down_from Density.last_row height_m) height_m }
 {
     let guess = float::truncated((height_m + 1000.0) / 100.0) as u32;
@@ -130,13 +135,12 @@ fn within_table(height_m: f32, densities: &[f32; ROW_COUNT]) -> f32
 }
 
 // Between a row, which is at `row_m`, and the next.
-fn between(row: u32, row_m: f32, height_m: f32, densities: &[f32; ROW_COUNT]) -> f32
+fn between(row: u32, row_m: f32, height_m: f32, densities: &DensityTable) -> f32
     requires row_below_last { row < Density.last_row }
     requires row_height { row_m ≡ Density.height_of row }
-    requires densities_table { densities.now ≡ Density.densities }
     ensures { result ≡ Density.between row height_m }
 {
     let at = row as usize;
-    let below = densities[at];
-    below + (densities[at + 1] - below) * ((height_m - row_m) / 100.0)
+    let below = densities.table[at];
+    below + (densities.table[at + 1] - below) * ((height_m - row_m) / 100.0)
 }

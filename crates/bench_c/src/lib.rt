@@ -24,7 +24,7 @@ use airframe_block::AirframeRead;
 use answers::Answer;
 use flight::{Flight, Tick};
 use run::{Pair, RunResult};
-use wing::{Report, TickResult};
+use wing::{Report, Tables, TickResult};
 
 #[unsafe(no_mangle)]
 pub extern "C" fn bench_sqrtf(x: f32) -> f32
@@ -216,11 +216,11 @@ fn ticked_prepared(airframe: &[f32], f: Flight, t: Tick) -> TickResult
 {
     let place = arrays::refused_place(airframe);
     if place == 0 {
-        let powers = libm::powers_of_two();
-        let lags = wing::lag_factors_from(arrays::lag_constants_in(airframe), t.step_s, &powers);
+        let tables = Tables::new();
+        let constants = arrays::lag_constants_in(airframe);
+        let lags = wing::lag_factors_from(constants, t.step_s, &tables.powers);
         let a = arrays::airframe_in(airframe);
-        let densities = air::densities();
-        return wing::tick_accepted(a, f, t, lags, &powers, &densities);
+        return wing::tick_accepted(a, f, t, lags, &tables);
     }
     wing::refused(Answer::NumberOutOfRange(place), f)
 }

@@ -3,13 +3,11 @@
 
 ghost use Rattle.std.specs.Prelude.{◌≡◌};
 ghost use Rattle.lag.specs.Lag as Lag;
-ghost use Rattle.libm.specs.Powers.{powers_of_two};
 
-use libm::POWER_COUNT;
+use libm::PowerTable;
 
 // How much of the way to its target a value goes in `h` seconds. `powers` is libm's table.
-pub fn factor(h: f32, time_constant_s: f32, powers: &[f32; POWER_COUNT]) -> f32
-    requires { powers.now ≡ powers_of_two }
+pub fn factor(h: f32, time_constant_s: f32, powers: &PowerTable) -> f32
     ensures { result ≡ Lag.factor_of h time_constant_s }
 {
     1.0 - libm::expf_with(-h / time_constant_s, powers)

@@ -6,7 +6,7 @@ ghost use Rattle.libm.specs.Powers as Powers;
 use crate::exp::expf_with;
 use crate::log::logf;
 use crate::powers;
-use crate::powers::POWER_COUNT;
+use crate::powers::PowerTable;
 
 fn at_most_one(x: f32) -> f32
     ensures { result ≡ Pow.at_most_one x }
@@ -15,8 +15,7 @@ fn at_most_one(x: f32) -> f32
 }
 
 // v to the power e for a v from 0 to 1, with the table of powers lent; a NaN for any other v.
-pub fn powf_with(v: f32, e: f32, powers: &[f32; POWER_COUNT]) -> f32
-    requires { powers.now ≡ Powers.powers_of_two }
+pub fn powf_with(v: f32, e: f32, powers: &PowerTable) -> f32
     ensures { result ≡ Pow.pow_of v e }
 {
     if v == 0.0 {

@@ -264,18 +264,24 @@ const TABLE: [f32; POWER_COUNT] = [
     1.7014118e38, // 2^127
 ];
 
-// The table. Naming a const array copies it: build once, pass by reference.
-pub fn powers_of_two() -> [f32; POWER_COUNT]
-    ensures { result ≡ Powers.powers_of_two }
+// The table, of which it is known that each entry is its power. It is made once and lent: naming a const array copies it.
+#[derive(Drop)]
+pub struct PowerTable {
+    pub table: [f32; POWER_COUNT],
+    pub ghost is_powers: { table ≡ Powers.powers_of_two },
+}
+
+// The table made.
+pub fn powers_of_two() -> PowerTable
+    ensures { result.table ≡ Powers.powers_of_two }
 {
-    TABLE
+    PowerTable { table: TABLE }
 }
 
 // 2^k.
-pub fn power_of_two(k: i64, powers: &[f32; POWER_COUNT]) -> f32
-    requires exponent_in { Promises.Exponent k }
-    requires powers_table { powers.now ≡ Powers.powers_of_two }
+pub fn power_of_two(k: i64, powers: &PowerTable) -> f32
+    requires { Promises.Exponent k }
     ensures { result ≡ fin false 1 k }
 {
-    powers[(k + 126) as usize]
+    powers.table[(k + 126) as usize]
 }

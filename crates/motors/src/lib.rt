@@ -3,12 +3,11 @@
 #![tactic(auto)]
 
 ghost use Rattle.std.specs.Prelude.{◌≡◌};
-ghost use Rattle.libm.specs.Powers.{powers_of_two};
 ghost use Rattle.motors.specs.Motor as Motor;
 ghost use Rattle.motors.specs.Reflection as Reflection;
 
 use fixed_wing::ThrustFalloff;
-use libm::POWER_COUNT;
+use libm::PowerTable;
 use mixers::{MixRow, Rows, Slot};
 use vector::Vec3;
 
@@ -156,9 +155,8 @@ impl Motors {
         self,
         falloff: ThrustFalloff,
         airspeed_mps: f32,
-        powers: &[f32; POWER_COUNT],
+        powers: &PowerTable,
     ) -> MotorWrench
-        requires { powers.now ≡ powers_of_two }
         ensures { result ≡ Motor.wrench_with self falloff airspeed_mps }
     {
         let group = self.group;
@@ -188,8 +186,7 @@ impl Motors {
     }
 
     // The same where nothing falls off. A loop of its own, so that neither group is copied for the other's (docs/DECISIONS.md, 85).
-    pub fn wrench(self, powers: &[f32; POWER_COUNT]) -> MotorWrench
-        requires { powers.now ≡ powers_of_two }
+    pub fn wrench(self, powers: &PowerTable) -> MotorWrench
         ensures { result ≡ Motor.wrench_without_falloff self }
     {
         let group = self.group;
@@ -232,9 +229,8 @@ impl MotorLayout {
         running: f32,
         falloff: ThrustFalloff,
         airspeed_mps: f32,
-        powers: &[f32; POWER_COUNT],
+        powers: &PowerTable,
     ) -> f32
-        requires { powers.now ≡ powers_of_two }
         ensures { result ≡ Motor.thrust_of self (Motor.falloff_at falloff self airspeed_mps) scale running }
     {
         let max_thrust_n = self.max_thrust_n;
@@ -243,8 +239,7 @@ impl MotorLayout {
     }
 
     // The same with a falloff share of 1.
-    fn still_thrust_n(self, scale: f32, running: f32, powers: &[f32; POWER_COUNT]) -> f32
-        requires { powers.now ≡ powers_of_two }
+    fn still_thrust_n(self, scale: f32, running: f32, powers: &PowerTable) -> f32
         ensures { result ≡ Motor.thrust_of self Motor.no_falloff scale running }
     {
         let max_thrust_n = self.max_thrust_n;
@@ -264,8 +259,7 @@ pub fn spun(used: bool, running: f32, command: f32, factor: f32) -> f32
 }
 
 // share_k of module 2, the running value to the power of the exponent (02, 4); the exponent 2 is a square.
-fn thrust_fraction(running: f32, thrust_exponent: f32, powers: &[f32; POWER_COUNT]) -> f32
-    requires { powers.now ≡ powers_of_two }
+fn thrust_fraction(running: f32, thrust_exponent: f32, powers: &PowerTable) -> f32
     ensures { result ≡ Motor.thrust_fraction running thrust_exponent }
 {
     if thrust_exponent == 2.0 {

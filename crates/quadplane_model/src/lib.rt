@@ -2,11 +2,10 @@
 #![tactic(auto)]
 
 ghost use Rattle.std.specs.Prelude.{◌≡◌};
-ghost use Rattle.libm.specs.Powers.{powers_of_two};
 ghost use Rattle.quadplane_model.specs.Lift as Lift;
 
 use body::Wrench;
-use libm::POWER_COUNT;
+use libm::PowerTable;
 use motors::{MotorGroup, Motors};
 use vector::Vec3;
 
@@ -50,8 +49,7 @@ impl LiftRotors {
 
     // Force and torque on body axes at the running values, `air_mps` being the air velocity on body axes: what of it passes along the
     // discs drags them.
-    pub fn wrench(self, running: [f32; 8], air_mps: Vec3, powers: &[f32; POWER_COUNT]) -> Wrench
-        requires { powers.now ≡ powers_of_two }
+    pub fn wrench(self, running: [f32; 8], air_mps: Vec3, powers: &PowerTable) -> Wrench
         ensures { result ≡ Lift.lift_wrench self running air_mps }
     {
         let pull = self.at(running).wrench(powers);

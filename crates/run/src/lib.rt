@@ -12,6 +12,7 @@ ghost use Rattle.run.specs.Mirrored as Mirrored;
 use airframe::Airframe;
 use answers::Answer;
 use flight::{Flight, Tick};
+use wing::Tables;
 
 // A run's answer, 0 or 1, its end state and how many of its ticks were accepted.
 #[derive(Clone, Copy)]
@@ -79,15 +80,14 @@ fn fly_all(a: Airframe, f: Flight, trace: &[u8], reflect: bool) -> RunResult
 {
     let count = trace::tick_count(trace);
     let mut flight = f;
-    let powers = libm::powers_of_two();
-    let densities = air::densities();
-    let mut lags = wing::begin(a, 0.01, &powers);
+    let tables = Tables::new();
+    let mut lags = wing::begin(a, 0.01, &tables.powers);
     let mut accepted = 0u64;
     let mut i = 0usize;
     while i < count {
         let t = tick_at(trace, i, reflect);
-        lags = wing::cached_lag_factors(a, lags, t.step_s, &powers);
-        let done = wing::tick_inside(a, flight, t, lags, &powers, &densities);
+        lags = wing::cached_lag_factors(a, lags, t.step_s, &tables.powers);
+        let done = wing::tick_inside(a, flight, t, lags, &tables);
         let report = done.report;
         let answer = report.answer;
         accepted += one_if_done(answer);

@@ -1,5 +1,4 @@
 // 01, module 8: the tick. Lags, thrust, wash, aerodynamics, lift rotors and the body's step, with the tests 6 to 10 around them.
-// `powers` is libm's table of powers of two and `densities` the air's table of densities, each made once a tick or once a run.
 #![tactic(auto)]
 
 ghost use Rattle.std.specs.Prelude.{true, ◌≡◌};
@@ -11,17 +10,36 @@ ghost use Rattle.wing.specs.Promises as Promises;
 ghost use Rattle.wing.specs.Loads as LoadsOf;
 ghost use Rattle.wing.specs.Tick as TickOf;
 
-use air::ROW_COUNT;
+use air::DensityTable;
 use airframe::{Airframe, LagConstants};
 use answers::Answer;
 use body::{Body, Loads, MassProperties, Wrench};
 use fixed_wing::FixedWingModel;
 use flight::{Flight, Tick};
-use libm::POWER_COUNT;
+use libm::PowerTable;
 use motors::Motors;
 use surfaces::Surfaces;
 use tailsitter_model::Wash;
 use vector::Vec3;
+
+// The tables that a tick looks up, made once a tick or once a run.
+#[derive(Drop)]
+pub struct Tables {
+    pub powers: PowerTable,
+    pub densities: DensityTable,
+}
+
+impl Tables {
+    pub fn new() -> Self
+        ensures powers { result.powers.table ≡ powers_of_two }
+        ensures densities { result.densities.table ≡ Density.densities }
+    {
+        Tables {
+            powers: libm::powers_of_two(),
+            densities: air::densities(),
+        }
+    }
+}
 
 // Loads, and what a tick reports besides its answer.
 #[derive(Clone, Copy)]
@@ -64,10 +82,9 @@ pub fn tick(a: Airframe, f: Flight, t: Tick) -> TickResult
 {
     let place = a.refused_place();
     if place == 0 {
-        let powers = libm::powers_of_two();
-        let densities = air::densities();
-        let lags = begin(a, t.step_s, &powers);
-        return tick_accepted(a, f, t, lags, &powers, &densities);
+        let tables = Tables::new();
+        let lags = begin(a, t.step_s, &tables.powers);
+        return tick_accepted(a, f, t, lags, &tables);
     }
     refused(Answer::NumberOutOfRange(place), f)
 }
@@ -78,17 +95,14 @@ pub fn tick_accepted(
     f: Flight,
     t: Tick,
     lags: LagFactors,
-    powers: &[f32; POWER_COUNT],
-    densities: &[f32; ROW_COUNT],
+    tables: &Tables,
 ) -> TickResult
     requires airframe_accepted { refused_place a ≡ 0 }
     requires lags_match { lags ≡ Promises.begin_of a t.step_s }
-    requires powers_table { powers.now ≡ powers_of_two }
-    requires densities_table { densities.now ≡ Density.densities }
     ensures { result ≡ TickOf.tick_of a f t }
 {
     if f.is_inside() {
-        return tick_inside(a, f, t, lags, powers, densities);
+        return tick_inside(a, f, t, lags, tables);
     }
     refused(Answer::StateOutside, f)
 }
@@ -99,19 +113,16 @@ pub fn tick_inside(
     f: Flight,
     t: Tick,
     lags: LagFactors,
-    powers: &[f32; POWER_COUNT],
-    densities: &[f32; ROW_COUNT],
+    tables: &Tables,
 ) -> TickResult
     requires airframe_accepted { refused_place a ≡ 0 }
     requires state_inside { is_inside f ≡ true }
     requires lags_match { lags ≡ Promises.begin_of a t.step_s }
-    requires powers_table { powers.now ≡ powers_of_two }
-    requires densities_table { densities.now ≡ Density.densities }
     ensures { result ≡ TickOf.tick_of a f t }
 {
     if float::inside(t.step_s, 0.0009765625, 0.02) {
         if wind_usable(t.wind_ned_mps) {
-            return unless_departed(f, next_with(a, f, t, lags, powers, densities));
+            return unless_departed(f, next_with(a, f, t, lags, tables));
         }
         return refused(Answer::WindUnusable, f);
     }
@@ -150,8 +161,7 @@ fn unless_departed(f: Flight, n: TickResult) -> TickResult
 }
 
 // The lag factors of a step.
-pub fn begin(a: Airframe, step_s: f32, powers: &[f32; POWER_COUNT]) -> LagFactors
-    requires { powers.now ≡ powers_of_two }
+pub fn begin(a: Airframe, step_s: f32, powers: &PowerTable) -> LagFactors
     ensures { result ≡ Promises.begin_of a step_s }
 {
     lag_factors_from(a.lag_constants(), step_s, powers)
@@ -161,9 +171,8 @@ pub fn begin(a: Airframe, step_s: f32, powers: &[f32; POWER_COUNT]) -> LagFactor
 pub fn lag_factors_from(
     constants: LagConstants,
     step_s: f32,
-    powers: &[f32; POWER_COUNT],
+    powers: &PowerTable,
 ) -> LagFactors
-    requires { powers.now ≡ powers_of_two }
     ensures { result ≡ Promises.lag_factors_from constants step_s }
 {
     LagFactors {
@@ -174,8 +183,7 @@ pub fn lag_factors_from(
     }
 }
 
-fn lift_factor(constants: LagConstants, step_s: f32, powers: &[f32; POWER_COUNT]) -> f32
-    requires { powers.now ≡ powers_of_two }
+fn lift_factor(constants: LagConstants, step_s: f32, powers: &PowerTable) -> f32
     ensures { result ≡ Promises.lift_factor constants step_s }
 {
     if constants.lift_present {
@@ -189,10 +197,9 @@ pub fn cached_lag_factors(
     a: Airframe,
     held: LagFactors,
     step_s: f32,
-    powers: &[f32; POWER_COUNT],
+    powers: &PowerTable,
 ) -> LagFactors
-    requires held_match { Promises.FactorsMatchStep a held }
-    requires powers_table { powers.now ≡ powers_of_two }
+    requires { Promises.FactorsMatchStep a held }
     ensures value { result ≡ Promises.begin_of a step_s }
     ensures matches_step { Promises.FactorsMatchStep a result }
 {
@@ -208,12 +215,9 @@ fn next_with(
     f: Flight,
     t: Tick,
     lags: LagFactors,
-    powers: &[f32; POWER_COUNT],
-    densities: &[f32; ROW_COUNT],
+    tables: &Tables,
 ) -> TickResult
-    requires lags_match { lags ≡ Promises.begin_of a t.step_s }
-    requires powers_table { powers.now ≡ powers_of_two }
-    requires densities_table { densities.now ≡ Density.densities }
+    requires { lags ≡ Promises.begin_of a t.step_s }
     ensures { result ≡ TickOf.next_of a f t }
 {
     let commands = t.motors;
@@ -228,8 +232,8 @@ fn next_with(
         lift_running,
         f.body(),
         t.wind_ned_mps,
-        density_for(f, densities),
-        powers,
+        density_for(f, &tables.densities),
+        &tables.powers,
     );
     let running = motors.running;
     let positions = surfaces.running;
@@ -245,8 +249,7 @@ fn next_with(
 }
 
 // The air's density at a state's height, which is its position down negated (02, 6).
-fn density_for(f: Flight, densities: &[f32; ROW_COUNT]) -> f32
-    requires { densities.now ≡ Density.densities }
+fn density_for(f: Flight, densities: &DensityTable) -> f32
     ensures { result ≡ TickOf.density_for f }
 {
     air::density_with(-f.down_m, densities)
@@ -297,9 +300,8 @@ pub fn loads(
     body: Body,
     wind_ned_mps: Vec3,
     density_kgpm3: f32,
-    powers: &[f32; POWER_COUNT],
+    powers: &PowerTable,
 ) -> Loaded
-    requires { powers.now ≡ powers_of_two }
     ensures { result ≡ LoadsOf.loads_of a motors surfaces lift_running body wind_ned_mps density_kgpm3 }
 {
     let m = a.model;
@@ -354,9 +356,8 @@ fn with_lift(
     lift_running: [f32; 8],
     air_mps: Vec3,
     wrench: Wrench,
-    powers: &[f32; POWER_COUNT],
+    powers: &PowerTable,
 ) -> Wrench
-    requires { powers.now ≡ powers_of_two }
     ensures { result ≡ LoadsOf.with_lift a lift_running air_mps wrench }
 {
     if a.lift_present {

@@ -13,4 +13,4 @@ pub returns : goal.returns
 unfolding between density_of of_bits round
 returns c =
     let b = c in
-    rw (b.requires.row_height, b.requires.densities_table, plus_one b.args.row)
+    rw (b.requires.row_height, b.args.densities.now.is_atmosphere, plus_one b.args.row)

@@ -4,6 +4,6 @@ use mathlib.Core.Path.{refl}
 use Rattle.air.specs.Density.{densities, ten_thousandths}
 use Rattle.air.proofs.densities.Goals as goal
 
-pub returns : goal.returns
+pub invariant_of-result : goal.invariant_of-result
 unfolding densities ten_thousandths of_bits round
-returns c = refl
+invariant_of-result c = record { is_atmosphere = refl }

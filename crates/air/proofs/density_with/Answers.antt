@@ -22,7 +22,7 @@ pub returns-then-height_m : goal.returns-then-height_m
 unfolding density_at density_of height_of of_int of_bits neg round
 returns-then-height_m c =
     let low : le c.args.height_m (height_of 0) ≡ true = c.if-height_m.true in
-    rw (c.requires, low)
+    rw (c.args.densities.now.is_atmosphere, low)
 
 pub returns-then-height_m-2 : goal.returns-then-height_m-2
 unfolding density_at density_of height_of of_int of_bits neg round
@@ -30,18 +30,15 @@ returns-then-height_m-2 c =
     let s = c in
     let not_low : le s.args.height_m (height_of 0) ≡ false = c.if-height_m.false in
     let high : le (height_of last_row) s.args.height_m ≡ true = c.if-height_m-2.true in
-    rw (s.requires, not_low, high)
+    rw (s.args.densities.now.is_atmosphere, not_low, high)
 
 pub returns-then-height_m-3 : goal.returns-then-height_m-3
 returns-then-height_m-3 c =
     let nan_is = differs_from_itself c.args.height_m (subst T (sym c.if-height_m-3.true) tt) in
     nan_is ∙ sym density-nan ∙ ap density_at (sym nan_is)
 
-pub within_table-requires-clause-height_inside : goal.within_table-requires-clause-height_inside
-within_table-requires-clause-height_inside c = past-tests c
-
-pub within_table-requires-clause-densities_table : goal.within_table-requires-clause-densities_table
-within_table-requires-clause-densities_table c = c.requires
+pub within_table-requires : goal.within_table-requires
+within_table-requires c = past-tests c
 
 pub returns : goal.returns
 unfolding density_at height_of of_int of_bits neg round

@@ -64,52 +64,50 @@ row_of h = row_down_from last_row h
 pub truncated-guess-requires : goal.truncated-guess-requires
 unfolding of_bits round
 truncated-guess-requires c =
-    let q = quotient-small c.args.height_m c.requires.height_inside in record { lower_bound = q.0; upper_bound = q.1 }
+    let q = quotient-small c.args.height_m c.requires in record { lower_bound = q.0; upper_bound = q.1 }
 
 pub overflow_cast-guess : goal.overflow_cast-guess
 unfolding of_bits round
-overflow_cast-guess c = casts c.args.height_m c.requires.height_inside c.truncated-guess.result c.truncated-guess.ensures.value
+overflow_cast-guess c = casts c.args.height_m c.requires c.truncated-guess.result c.truncated-guess.ensures.value
 
 pub row_height-row_m-requires : goal.row_height-row_m-requires
 unfolding of_bits round
-row_height-row_m-requires c = is_row c.args.height_m c.requires.height_inside c.truncated-guess.result c.truncated-guess.ensures.value
+row_height-row_m-requires c = is_row c.args.height_m c.requires c.truncated-guess.result c.truncated-guess.ensures.value
 
 pub overflow_sub-guess : goal.overflow_sub-guess
 unfolding of_bits round
-overflow_sub-guess c = some (row_guessed c.truncated-guess.result) (row_of c.args.height_m) (down c.args.height_m c.requires.height_inside c.truncated-guess.result c.truncated-guess.ensures.value c.row_height-row_m.result
+overflow_sub-guess c = some (row_guessed c.truncated-guess.result) (row_of c.args.height_m) (down c.args.height_m c.requires c.truncated-guess.result c.truncated-guess.ensures.value c.row_height-row_m.result
     c.row_height-row_m.ensures c.if-height_m-row_m.true)
 
 pub between-requires : goal.between-requires
 unfolding of_bits round
 between-requires c =
     let g = c in
-    let less = one_less (row_guessed g.truncated-guess.result) (row_of g.args.height_m) (down c.args.height_m c.requires.height_inside c.truncated-guess.result c.truncated-guess.ensures.value c.row_height-row_m.result
+    let less = one_less (row_guessed g.truncated-guess.result) (row_of g.args.height_m) (down c.args.height_m c.requires c.truncated-guess.result c.truncated-guess.ensures.value c.row_height-row_m.result
     c.row_height-row_m.ensures c.if-height_m-row_m.true) in
-    let last = row_inside g.args.height_m g.requires.height_inside in record {
+    let last = row_inside g.args.height_m g.requires in record {
       row_below_last = subst (λ (k : ℕ). k < last_row) (sym less) last;
-      row_height = ap (λ (x : Float). x ⊖ rounded 100 1) (c.row_height-row_m.ensures ∙ ap height_of (down c.args.height_m c.requires.height_inside c.truncated-guess.result c.truncated-guess.ensures.value c.row_height-row_m.result
+      row_height = ap (λ (x : Float). x ⊖ rounded 100 1) (c.row_height-row_m.ensures ∙ ap height_of (down c.args.height_m c.requires c.truncated-guess.result c.truncated-guess.ensures.value c.row_height-row_m.result
           c.row_height-row_m.ensures c.if-height_m-row_m.true)) ∙ row-lower (row_of g.args.height_m) last ∙ ap height_of (sym less);
-      densities_table = g.requires.densities_table;
     }
 
 pub returns-then-height_m-row_m : goal.returns-then-height_m-row_m
 unfolding of_bits round
 returns-then-height_m-row_m c =
     let g = c in
-    c.between.ensures ∙ ap (λ (k : ℕ). between k g.args.height_m) (one_less (row_guessed g.truncated-guess.result) (row_of g.args.height_m) (down c.args.height_m c.requires.height_inside c.truncated-guess.result c.truncated-guess.ensures.value c.row_height-row_m.result
+    c.between.ensures ∙ ap (λ (k : ℕ). between k g.args.height_m) (one_less (row_guessed g.truncated-guess.result) (row_of g.args.height_m) (down c.args.height_m c.requires c.truncated-guess.result c.truncated-guess.ensures.value c.row_height-row_m.result
     c.row_height-row_m.ensures c.if-height_m-row_m.true))
 
 pub between-requires-2 : goal.between-requires-2
 unfolding of_bits round
 between-requires-2 c =
     let g = c in record {
-      row_below_last = subst (λ (k : ℕ). k < last_row) (sym (stays c.args.height_m c.requires.height_inside c.truncated-guess.result c.truncated-guess.ensures.value c.row_height-row_m.result
-          c.row_height-row_m.ensures c.if-height_m-row_m.false)) (row_inside g.args.height_m g.requires.height_inside);
+      row_below_last = subst (λ (k : ℕ). k < last_row) (sym (stays c.args.height_m c.requires c.truncated-guess.result c.truncated-guess.ensures.value c.row_height-row_m.result
+          c.row_height-row_m.ensures c.if-height_m-row_m.false)) (row_inside g.args.height_m g.requires);
       row_height = c.row_height-row_m.ensures;
-      densities_table = g.requires.densities_table;
     }
 
 pub returns : goal.returns
 unfolding of_bits round
-returns c = c.between-2.ensures ∙ ap (λ (k : ℕ). between k c.args.height_m) (stays c.args.height_m c.requires.height_inside c.truncated-guess.result c.truncated-guess.ensures.value c.row_height-row_m.result
+returns c = c.between-2.ensures ∙ ap (λ (k : ℕ). between k c.args.height_m) (stays c.args.height_m c.requires c.truncated-guess.result c.truncated-guess.ensures.value c.row_height-row_m.result
     c.row_height-row_m.ensures c.if-height_m-row_m.false)

@@ -13,9 +13,7 @@ tick_accepted-requires c =
     let t = b.before.before in
     let a = d.airframe_in-a.ensures in record {
       airframe_accepted = ap refused_place a ∙ sym t.refused_place-place.ensures ∙ t.if-place-eq0.true;
-      lags_match = simp (b.lag_factors_from-lags.ensures, t.lag_constants_in.ensures, a);
-      powers_table = t.powers_of_two-powers.ensures;
-      densities_table = d.densities-densities.ensures;
+      lags_match = simp (b.lag_factors_from-lags.ensures, t.lag_constants_in-constants.ensures, a);
     }
 
 pub returns-then-place-eq0 : goal.returns-then-place-eq0

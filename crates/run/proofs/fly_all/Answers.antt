@@ -33,10 +33,7 @@ loop-i-init c =
 pub cached_lag_factors-lags-requires : goal.cached_lag_factors-lags-requires
 cached_lag_factors-lags-requires c =
     let s = c in
-    record {
-      held_match = s.loop-i.invariant.5;
-      powers_table = s.powers_of_two-powers.ensures;
-    }
+    s.loop-i.invariant.5
 
 pub tick_inside-done-requires : goal.tick_inside-done-requires
 tick_inside-done-requires c =
@@ -48,8 +45,6 @@ tick_inside-done-requires c =
       airframe_accepted = start.requires.airframe_accepted;
       state_inside = s.loop-i.invariant.4;
       lags_match = factors;
-      powers_table = begun.powers_of_two-powers.ensures;
-      densities_table = begun.densities-densities.ensures;
     }
 
 pub overflow_add-accepted : goal.overflow_add-accepted

@@ -5,14 +5,7 @@ use Rattle.airframe.specs.Promises.{lag_constants_of}
 use Rattle.motors.specs.Motor.{lag_factor}
 use Rattle.wing.specs.Promises.{lag_factors_from}
 use Rattle.wing.specs.Tick.{loads_in, moved_of, next_with, spun_of}
-use borrow.Author.Rules.{rules}
 use Rattle.wing.proofs.next_with.Goals as goal
-
-pub density_for-requires : goal.density_for-requires
-density_for-requires c = search (rules, c.requires)
-
-pub loads-loaded-requires : goal.loads-loaded-requires
-loads-loaded-requires c = search (rules, c.requires)
 
 pub returns : goal.returns
 unfolding next_with loads_in spun_of moved_of lag_factor lag_factors_from lag_constants_of of_bits round
@@ -30,6 +23,6 @@ returns c =
       l.surfaces_of.ensures,
       s.spin-motors.ensures,
       s.motors_of.ensures,
-      x.requires.lags_match,
+      x.requires,
       held-factor x.args.a x.args.f x.args.t,
     )

@@ -12,13 +12,10 @@ use Rattle.wing.proofs.tick.Goals as goal
 pub tick_accepted-requires : goal.tick_accepted-requires
 tick_accepted-requires c =
     let b = c in
-    let d = b.before.before in
-    let t = d.before.before in
+    let t = b.before.before.before in
     record {
       airframe_accepted = sym t.refused_place-place.ensures ∙ t.if-place-eq0.true;
       lags_match = b.begin-lags.ensures;
-      powers_table = d.powers_of_two-powers.ensures;
-      densities_table = d.densities-densities.ensures;
     }
 
 pub returns : goal.returns

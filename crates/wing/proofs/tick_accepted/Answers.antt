@@ -6,7 +6,7 @@ use Rattle.wing.proofs.tick_accepted.Goals as goal
 pub tick_inside-requires : goal.tick_inside-requires
 tick_inside-requires c =
     let p = c.requires in
-    record { airframe_accepted = p.airframe_accepted; state_inside = sym c.is_inside.ensures ∙ c.if-is_inside.true; lags_match = p.lags_match; powers_table = p.powers_table; densities_table = p.densities_table }
+    record { airframe_accepted = p.airframe_accepted; state_inside = sym c.is_inside.ensures ∙ c.if-is_inside.true; lags_match = p.lags_match }
 
 pub returns : goal.returns
 unfolding tick_of tick_with accepted_tick

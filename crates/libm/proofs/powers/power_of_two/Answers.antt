@@ -33,21 +33,21 @@ fit-by-four : (n : ℕ) → n < power_count → Fits w64 (n * 4)
 fit-by-four n h = record { fits = omega arith }
 
 pub overflow_add-result : goal.overflow_add-result
-overflow_add-result c = subst (λ (z : ℤ). SFits w64 z) (sym (at c.args.k c.ranges.k c.requires.exponent_in).is) (held (at c.args.k c.ranges.k c.requires.exponent_in).i (at c.args.k c.ranges.k c.requires.exponent_in).below)
+overflow_add-result c = subst (λ (z : ℤ). SFits w64 z) (sym (at c.args.k c.ranges.k c.requires).is) (held (at c.args.k c.ranges.k c.requires).i (at c.args.k c.ranges.k c.requires).below)
 
 pub overflow_cast-result : goal.overflow_cast-result
-overflow_cast-result c = subst (λ (z : ℤ). T (non_neg z) × Fits w64 (nat_abs z)) (sym (again c.args.k c.ranges.k c.requires.exponent_in)) (tt, fit (at c.args.k c.ranges.k c.requires.exponent_in).i (at c.args.k c.ranges.k c.requires.exponent_in).below)
+overflow_cast-result c = subst (λ (z : ℤ). T (non_neg z) × Fits w64 (nat_abs z)) (sym (again c.args.k c.ranges.k c.requires)) (tt, fit (at c.args.k c.ranges.k c.requires).i (at c.args.k c.ranges.k c.requires).below)
 
 pub offset_bounds-powers-k : goal.offset_bounds-powers-k
-offset_bounds-powers-k c = subst (λ (z : ℤ). Fits w64 (nat_abs z * 4)) (sym (again c.args.k c.ranges.k c.requires.exponent_in)) (fit-by-four (at c.args.k c.ranges.k c.requires.exponent_in).i (at c.args.k c.ranges.k c.requires.exponent_in).below)
+offset_bounds-powers-k c = subst (λ (z : ℤ). Fits w64 (nat_abs z * 4)) (sym (again c.args.k c.ranges.k c.requires)) (fit-by-four (at c.args.k c.ranges.k c.requires).i (at c.args.k c.ranges.k c.requires).below)
 
 pub bounds-powers-k : goal.bounds-powers-k
-bounds-powers-k c = subst (λ (z : ℤ). nat_abs z < power_count) (sym (again c.args.k c.ranges.k c.requires.exponent_in)) (at c.args.k c.ranges.k c.requires.exponent_in).below
+bounds-powers-k c = subst (λ (z : ℤ). nat_abs z < power_count) (sym (again c.args.k c.ranges.k c.requires)) (at c.args.k c.ranges.k c.requires).below
 
 pub returns : goal.returns
 returns c =
     let b = c in
-    ap (λ (z : ℤ). get_or b.args.powers.now (nat_abs z) nan) (again b.args.k b.ranges.k b.requires.exponent_in)
-    ∙ ap (λ (t : List Float). get_or t (at b.args.k b.ranges.k b.requires.exponent_in).i nan) b.requires.powers_table
-    ∙ entry (at b.args.k b.ranges.k b.requires.exponent_in).i (at b.args.k b.ranges.k b.requires.exponent_in).below
-    ∙ (at b.args.k b.ranges.k b.requires.exponent_in).power
+    ap (λ (z : ℤ). get_or b.args.powers.now.table (nat_abs z) nan) (again b.args.k b.ranges.k b.requires)
+    ∙ ap (λ (t : List Float). get_or t (at b.args.k b.ranges.k b.requires).i nan) b.args.powers.now.is_powers
+    ∙ entry (at b.args.k b.ranges.k b.requires).i (at b.args.k b.ranges.k b.requires).below
+    ∙ (at b.args.k b.ranges.k b.requires).power

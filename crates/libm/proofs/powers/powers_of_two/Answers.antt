@@ -4,6 +4,6 @@ use Rattle.float.specs.Lists.{list_from, list_of}
 use Rattle.libm.proofs.Entries.{patterns}
 use Rattle.libm.proofs.powers.powers_of_two.Goals as goal
 
-pub returns : goal.returns
+pub invariant_of-result : goal.invariant_of-result
 unfolding list_of list_from
-returns c = sym patterns
+invariant_of-result c = record { is_powers = sym patterns }
