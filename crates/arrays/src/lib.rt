@@ -102,16 +102,7 @@ fn slots_in(xs: &[f32], at: usize) -> [f32; 8]
     requires { at + 8 ≤ length xs.now }
     ensures { result ≡ FlightArray.slots_in xs.now at }
 {
-    [
-        xs[at],
-        xs[at + 1],
-        xs[at + 2],
-        xs[at + 3],
-        xs[at + 4],
-        xs[at + 5],
-        xs[at + 6],
-        xs[at + 7],
-    ]
+    array::from_fn(|k| xs[at + k])
 }
 
 // The state of an array.

@@ -9,6 +9,7 @@ ghost use Rattle.motors.specs.Reflection as Reflection;
 use fixed_wing::ThrustFalloff;
 use libm::PowerTable;
 use mixers::{MixRow, Rows, Slot};
+use std::array;
 use vector::Vec3;
 
 // What all motors of a group have in common but their lag: places 40, 41, 35 and 36, or 54, 55, 52 and 53.
@@ -56,13 +57,9 @@ impl MotorGroup {
     pub fn new(rows: Rows, layout: MotorLayout, time_constant_s: f32) -> Self
         ensures { result ≡ Motor.group_of rows layout time_constant_s }
     {
-        let list = rows.rows;
-        let count = rows.live();
         let mut group = MotorGroup::empty(layout, time_constant_s);
-        let mut i = 0usize;
-        while i < count {
-            group = group.put(list[i]);
-            i += 1;
+        for row in &rows.rows[..rows.live()] {
+            group = group.put(*row);
         }
         group
     }
@@ -138,14 +135,9 @@ impl Motors {
     pub fn spin(mut self, commands: [f32; 8], factor: f32) -> Self
         ensures { result ≡ Motor.spin_of self commands factor }
     {
-        let group = self.group;
-        let used = group.used;
-        let mut running = self.running;
-        let mut i = 0usize;
-        while i < 8 {
-            running[i] = spun(used[i], running[i], commands[i], factor);
-            i += 1;
-        }
+        let running = array::from_fn(|i| {
+            spun(self.group.used[i], self.running[i], commands[i], factor)
+        });
         self.running = running;
         self
     }
@@ -165,19 +157,12 @@ impl Motors {
         let torques = group.torque_per_thrust_m;
         let mut thrust_n = 0.0;
         let mut torque_nm = Vec3::zeros();
-        let mut i = 0usize;
-        while i < 8 {
-            let layout = group.layout;
-            let one_n = layout.motor_thrust_n(
-                thrust_scale[i],
-                running[i],
-                falloff,
-                airspeed_mps,
-                powers,
-            );
-            thrust_n = thrust_n + one_n;
+        for i in 0..8 {
+            let one_n = group
+                .layout
+                .motor_thrust_n(thrust_scale[i], running[i], falloff, airspeed_mps, powers);
+            thrust_n += one_n;
             torque_nm = torque_nm.add(torques[i].scale(one_n));
-            i += 1;
         }
         MotorWrench {
             thrust_n,
@@ -195,13 +180,12 @@ impl Motors {
         let torques = group.torque_per_thrust_m;
         let mut thrust_n = 0.0;
         let mut torque_nm = Vec3::zeros();
-        let mut i = 0usize;
-        while i < 8 {
-            let layout = group.layout;
-            let one_n = layout.still_thrust_n(thrust_scale[i], running[i], powers);
-            thrust_n = thrust_n + one_n;
+        for i in 0..8 {
+            let one_n = group
+                .layout
+                .still_thrust_n(thrust_scale[i], running[i], powers);
+            thrust_n += one_n;
             torque_nm = torque_nm.add(torques[i].scale(one_n));
-            i += 1;
         }
         MotorWrench {
             thrust_n,

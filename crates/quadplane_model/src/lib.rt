@@ -7,6 +7,7 @@ ghost use Rattle.quadplane_model.specs.Lift as Lift;
 use body::Wrench;
 use libm::PowerTable;
 use motors::{MotorGroup, Motors};
+use std::array;
 use vector::Vec3;
 
 // Places 52 to 57 of an airframe, and what its rows say of lift rotors.
@@ -31,20 +32,12 @@ impl LiftRotors {
         }
     }
 
-    // The running values after a step of the lag: each used rotor follows its command, as a motor does. A loop of its own, as
-    // `Motors::wrench` is.
+    // The running values after a step of the lag: each used rotor follows its command, as a motor does. Not by `Motors::spin`, so that
+    // the group is not copied (docs/DECISIONS.md, 85).
     pub fn spun(self, running: [f32; 8], commands: [f32; 8], factor: f32) -> [f32; 8]
         ensures { result ≡ Lift.rotors_spun self running commands factor }
     {
-        let motors = self.motors;
-        let used = motors.used;
-        let mut out = running;
-        let mut i = 0usize;
-        while i < 8 {
-            out[i] = motors::spun(used[i], out[i], commands[i], factor);
-            i += 1;
-        }
-        out
+        array::from_fn(|i| motors::spun(self.motors.used[i], running[i], commands[i], factor))
     }
 
     // Force and torque on body axes at the running values, `air_mps` being the air velocity on body axes: what of it passes along the

@@ -83,8 +83,7 @@ fn fly_all(a: Airframe, f: Flight, trace: &[u8], reflect: bool) -> RunResult
     let tables = Tables::new();
     let mut lags = wing::begin(a, 0.01, &tables.powers);
     let mut accepted = 0u64;
-    let mut i = 0usize;
-    while i < count {
+    for i in 0..count {
         let t = tick_at(trace, i, reflect);
         lags = wing::cached_lag_factors(a, lags, t.step_s, &tables.powers);
         let done = wing::tick_inside(a, flight, t, lags, &tables);
@@ -92,7 +91,6 @@ fn fly_all(a: Airframe, f: Flight, trace: &[u8], reflect: bool) -> RunResult
         let answer = report.answer;
         accepted += one_if_done(answer);
         flight = done.flight;
-        i += 1;
     }
     ended(Ok(()), flight, accepted)
 }

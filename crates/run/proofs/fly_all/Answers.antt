@@ -19,21 +19,18 @@ use Rattle.run.proofs.fly_all.Goals as goal
 
 pub loop-i-init : goal.loop-i-init
 unfolding ticks_from
-loop-i-init c =
-    let s = c in (
-      search rules,
-      search rules,
-      s.tick_count-count.ensures,
-      refl,
-      s.requires.state_inside,
-      subst (FactorsMatchStep _) (sym c.begin-lags.ensures) (begin-of-its-step _ _ (of_bits-fits binary32 _)),
-      search rules,
-    )
+loop-i-init c = (
+  search rules,
+  c.tick_count-count.ensures,
+  refl,
+  c.requires.state_inside,
+  subst (FactorsMatchStep _) (sym c.begin-lags.ensures) (begin-of-its-step _ _ (of_bits-fits binary32 _)),
+)
 
 pub cached_lag_factors-lags-requires : goal.cached_lag_factors-lags-requires
 cached_lag_factors-lags-requires c =
     let s = c in
-    s.loop-i.invariant.5
+    s.loop-i.invariant.4
 
 pub tick_inside-done-requires : goal.tick_inside-done-requires
 tick_inside-done-requires c =
@@ -43,20 +40,9 @@ tick_inside-done-requires c =
     let factors = c.cached_lag_factors-lags.ensures.value in
     record {
       airframe_accepted = start.requires.airframe_accepted;
-      state_inside = s.loop-i.invariant.4;
+      state_inside = s.loop-i.invariant.3;
       lags_match = factors;
     }
-
-pub overflow_add-accepted : goal.overflow_add-accepted
-overflow_add-accepted c =
-    let t = c in
-    let s = t.before in
-    record { fits = omega (arith, s.loop-i.invariant.1, t.loop-i-test.true, c.one_if_done-accepted.ensures.upper_bound, s.loop-i.invariant.6.fits) }
-
-pub overflow_add-i : goal.overflow_add-i
-overflow_add-i c =
-    let t = c in
-    record { fits = omega (arith, t.loop-i-test.true, t.loop-i.invariant.6.fits) }
 
 pub loop-i-preserved : goal.loop-i-preserved
 loop-i-preserved c =
@@ -70,15 +56,13 @@ loop-i-preserved c =
     let t = k.before.before.before.before.before in
     let n = c.one_if_done-accepted in (
       search rules,
-      search rules,
-      s.loop-i.invariant.2,
+      s.loop-i.invariant.1,
       progress a.a p _ t.tick_at-t.result k.tick_inside-done.result n.result t.tick_at-t.ensures k.tick_inside-done.ensures n.ensures.value
-          ∙ ap (λ (q : Progress). on q (tick_at a.trace.now i)) s.loop-i.invariant.3
+          ∙ ap (λ (q : Progress). on q (tick_at a.trace.now i)) s.loop-i.invariant.2
           ∙ after_more on start a.trace.now i,
       ap (λ (x : TickResult). is_inside x.flight) k.tick_inside-done.ensures
-          ∙ stays-inside a.a s.loop-i.flight t.tick_at-t.result s.loop-i.invariant.4,
+          ∙ stays-inside a.a s.loop-i.flight t.tick_at-t.result s.loop-i.invariant.3,
       k.cached_lag_factors-lags.ensures.matches_step,
-      s.loop-i.invariant.6,
     )
 
 pub returns : goal.returns
@@ -90,6 +74,6 @@ returns c =
     let trace = a.trace.now in
     c.ended.ensures
     ∙ ap (λ (p : Progress). ended done p.flight p.accepted)
-    (s.loop-i.invariant.3
+    (s.loop-i.invariant.2
     ∙ after-all (track_on a.reflect a.a) start trace s.loop-i.i (omega arith) (omega (arith, c.loop-i-test.false))
     ∙ sym (foldl-map (reflected_if a.reflect) (progressed a.a) (ticks_of trace) start))

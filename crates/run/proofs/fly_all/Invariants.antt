@@ -1,9 +1,7 @@
 -- `run::fly_all` meets its contract. Assumes nothing.
-use Prim.Native.Nat.{◌+◌, ◌-◌, ◌≤◌}
+use Prim.Native.Nat.{◌≤◌}
 use mathlib.Core.Bool.{true}
 use mathlib.Core.Path.{◌≡◌}
-use mir.Syntax.{w64}
-use mir.Val.{Fits}
 use Rattle.flight.specs.Envelope.{is_inside}
 use Rattle.trace.proofs.Trace.{after}
 use Rattle.trace.specs.Trace.{tick_count}
@@ -14,13 +12,8 @@ use Rattle.run.proofs.fly_all.Given as goal
 
 abbrev pub invariant-loop-i : goal.invariant-loop-i
 invariant-loop-i l = let start : Progress = record { flight = l.initial.flight; accepted = 0 } in
-    (l.i ≤ l.count)
-    × (l.accepted ≤ l.i)
+    (l.accepted ≤ l.i)
     × (l.count ≡ tick_count l.trace)
     × (◌≡◌ {A = Progress} (record { flight = l.flight; accepted = l.accepted }) (after (track_on l.reflect l.a) start l.trace l.i))
     × (is_inside l.flight ≡ true)
     × FactorsMatchStep l.a l.lags
-    × Fits w64 (l.count + 1)
-
-abbrev pub decreases-loop-i : goal.decreases-loop-i
-decreases-loop-i l = l.count - l.i

@@ -1,5 +1,4 @@
 -- `motors::Motors::wrench` meets its contract. Assumes nothing.
-use Prim.Native.Nat.{◌-◌, ◌≤◌}
 use mathlib.Core.Path.{◌≡◌}
 use Rattle.mixers.specs.Slots.{sum_to, vec_sum_to}
 use Rattle.motors.specs.Motor.{slot_thrust, slot_torque, no_falloff}
@@ -8,7 +7,4 @@ use Rattle.motors.proofs.Motors.wrench.Given as goal
 
 abbrev pub invariant-loop-i : goal.invariant-loop-i
 invariant-loop-i l = let m : Motors = record { group = l.group; running = l.running; thrust_scale = l.thrust_scale } in
-    (l.i ≤ 8) × (l.thrust_n ≡ sum_to (slot_thrust m no_falloff) l.i) × (l.torque_nm ≡ vec_sum_to (slot_torque m no_falloff) l.i)
-
-abbrev pub decreases-loop-i : goal.decreases-loop-i
-decreases-loop-i l = 8 - l.i
+    (l.thrust_n ≡ sum_to (slot_thrust m no_falloff) l.i) × (l.torque_nm ≡ vec_sum_to (slot_torque m no_falloff) l.i)

@@ -2,7 +2,6 @@
 use lib.Ieee.{of_bits}
 use mathlib.Core.Path.{◌∙◌, ◌≡◌, ap, refl}
 use native.Mathlib.Nat.{le_antisymm}
-use borrow.Author.Rules.{rules}
 use Rattle.mixers.proofs.Slots.{sum_more, vec-sum-more}
 use Rattle.mixers.specs.Slots.{sum_to, vec_at, vec_sum_to}
 use Rattle.vector.specs.Vector.{scale_of}
@@ -11,7 +10,7 @@ use Rattle.motors.proofs.Motors.wrench_with.Goals as goal
 
 pub loop-i-init : goal.loop-i-init
 unfolding sum_to vec_sum_to of_bits
-loop-i-init c = (search rules, refl, c.zeros-torque_nm.ensures)
+loop-i-init c = (refl, c.zeros-torque_nm.ensures)
 
 pub loop-i-preserved : goal.loop-i-preserved
 unfolding slot_thrust slot_torque
@@ -21,9 +20,8 @@ loop-i-preserved c =
     let i = s.loop-i.i in
     let left = falloff_at a.falloff a.self.group.layout a.airspeed_mps in
     let one-n = c.motor_thrust_n-one_n in (
-      search rules,
-      sum_more (slot_thrust a.self left) i s.loop-i.thrust_n one-n.result s.loop-i.invariant.1 one-n.ensures,
-      vec-sum-more (slot_torque a.self left) i s.loop-i.torque_nm c.scale.result c.add-torque_nm.result s.loop-i.invariant.2
+      sum_more (slot_thrust a.self left) i s.loop-i.thrust_n one-n.result s.loop-i.invariant.0 one-n.ensures,
+      vec-sum-more (slot_torque a.self left) i s.loop-i.torque_nm c.scale.result c.add-torque_nm.result s.loop-i.invariant.1
           (c.scale.ensures ∙ ap (scale_of (vec_at a.self.group.torque_per_thrust_m i)) {y = slot_thrust a.self left i}
           one-n.ensures) c.add-torque_nm.ensures,
     )
@@ -32,5 +30,5 @@ pub returns : goal.returns
 unfolding wrench_with wrench_by
 returns c =
     let s = c in
-    let e : s.loop-i.i ≡ 8 = le_antisymm s.loop-i.invariant.0 c.loop-i-test.false in
-    rw (s.loop-i.invariant.1, s.loop-i.invariant.2, e)
+    let e : s.loop-i.i ≡ 8 = le_antisymm s.loop-i.auto.i-end c.loop-i-test.false in
+    rw (s.loop-i.invariant.0, s.loop-i.invariant.1, e)

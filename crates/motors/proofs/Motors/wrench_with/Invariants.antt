@@ -1,5 +1,4 @@
 -- `motors::Motors::wrench_with` meets its contract. Assumes nothing.
-use Prim.Native.Nat.{◌-◌, ◌≤◌}
 use mathlib.Core.Path.{◌≡◌}
 use Rattle.mixers.specs.Slots.{sum_to, vec_sum_to}
 use Rattle.motors.specs.Motor.{falloff_at, slot_thrust, slot_torque}
@@ -9,7 +8,4 @@ use Rattle.motors.proofs.Motors.wrench_with.Given as goal
 abbrev pub invariant-loop-i : goal.invariant-loop-i
 invariant-loop-i l = let m : Motors = record { group = l.group; running = l.running; thrust_scale = l.thrust_scale } in
     let left = falloff_at l.falloff l.group.layout l.airspeed_mps in
-    (l.i ≤ 8) × (l.thrust_n ≡ sum_to (slot_thrust m left) l.i) × (l.torque_nm ≡ vec_sum_to (slot_torque m left) l.i)
-
-abbrev pub decreases-loop-i : goal.decreases-loop-i
-decreases-loop-i l = 8 - l.i
+    (l.thrust_n ≡ sum_to (slot_thrust m left) l.i) × (l.torque_nm ≡ vec_sum_to (slot_torque m left) l.i)
