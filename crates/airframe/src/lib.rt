@@ -43,8 +43,7 @@ pub struct Airframe {
 pub struct LagConstants {
     pub motor_s: f32,
     pub servo_s: f32,
-    pub lift_present: bool,
-    pub lift_s: f32,
+    pub lift_s: Option<f32>,
 }
 
 // The least and the largest number of a place.
@@ -147,15 +146,15 @@ impl Airframe {
     pub fn lag_constants(self) -> LagConstants
         ensures { result ≡ Promises.lag_constants_of self }
     {
-        let m = self.model;
-        let motors = self.motors;
-        let lift = self.lift;
-        let rotors = lift.motors;
+        let lift_s = if self.lift_present {
+            Some(self.lift.motors.time_constant_s)
+        } else {
+            None
+        };
         LagConstants {
-            motor_s: motors.time_constant_s,
-            servo_s: m.servo_time_constant_s,
-            lift_present: self.lift_present,
-            lift_s: rotors.time_constant_s,
+            motor_s: self.motors.time_constant_s,
+            servo_s: self.model.servo_time_constant_s,
+            lift_s,
         }
     }
 }

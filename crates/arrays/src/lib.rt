@@ -354,12 +354,15 @@ pub fn lag_constants_in(xs: &[f32]) -> LagConstants
     requires { AirframeArray.airframe_numbers_count ≤ length xs.now }
     ensures { result ≡ lag_constants_of (AirframeArray.airframe_in xs.now) }
 {
-    let lift_present = is_set(xs[LIFT_PRESENT_AT]);
+    let lift_s = if is_set(xs[LIFT_PRESENT_AT]) {
+        Some(xs[LIFT_CONSTANT_AT])
+    } else {
+        None
+    };
     LagConstants {
         motor_s: xs[airframe::MOTOR_TIME_CONSTANT],
         servo_s: xs[airframe::SERVO_TIME_CONSTANT],
-        lift_present,
-        lift_s: xs[LIFT_CONSTANT_AT],
+        lift_s,
     }
 }
 

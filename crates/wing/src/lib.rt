@@ -109,13 +109,7 @@ pub fn tick_accepted(
 }
 
 // The same from a state inside the envelope: the tests 8, 10 and 9.
-pub fn tick_inside(
-    a: Airframe,
-    f: Flight,
-    t: Tick,
-    lags: LagFactors,
-    tables: &Tables,
-) -> TickResult
+pub fn tick_inside(a: Airframe, f: Flight, t: Tick, lags: LagFactors, tables: &Tables) -> TickResult
     requires airframe_accepted { refused_place a ≡ 0 }
     requires state_inside { is_inside f ≡ true }
     requires lags_match { lags ≡ Promises.begin_of a t.step_s }
@@ -169,28 +163,24 @@ pub fn begin(a: Airframe, step_s: f32, powers: &PowerTable) -> LagFactors
 }
 
 // The same by the lags' constants: an airframe in an array need not be read for them.
-pub fn lag_factors_from(
-    constants: LagConstants,
-    step_s: f32,
-    powers: &PowerTable,
-) -> LagFactors
+pub fn lag_factors_from(constants: LagConstants, step_s: f32, powers: &PowerTable) -> LagFactors
     ensures { result ≡ Promises.lag_factors_from constants step_s }
 {
     LagFactors {
         step_bits: float::to_bits(step_s),
         motor: lag::factor(step_s, constants.motor_s, powers),
         servo: lag::factor(step_s, constants.servo_s, powers),
-        lift: lift_factor(constants, step_s, powers),
+        lift: lift_factor(constants.lift_s, step_s, powers),
     }
 }
 
-fn lift_factor(constants: LagConstants, step_s: f32, powers: &PowerTable) -> f32
-    ensures { result ≡ Promises.lift_factor constants step_s }
+fn lift_factor(constant_s: Option<f32>, step_s: f32, powers: &PowerTable) -> f32
+    ensures { result ≡ Promises.lift_factor constant_s step_s }
 {
-    if constants.lift_present {
-        return lag::factor(step_s, constants.lift_s, powers);
+    match constant_s {
+        Some(constant_s) => lag::factor(step_s, constant_s, powers),
+        None => 0.0,
     }
-    0.0
 }
 
 // The lag factors of a step; `held`, those of the last step, are reused while the step has the same bits.
@@ -211,13 +201,7 @@ pub fn cached_lag_factors(
 }
 
 // The next state and its report, whatever the tests say, with the lag factors of the tick's step.
-fn next_with(
-    a: Airframe,
-    f: Flight,
-    t: Tick,
-    lags: LagFactors,
-    tables: &Tables,
-) -> TickResult
+fn next_with(a: Airframe, f: Flight, t: Tick, lags: LagFactors, tables: &Tables) -> TickResult
     requires { lags ≡ Promises.begin_of a t.step_s }
     ensures { result ≡ TickOf.next_of a f t }
 {

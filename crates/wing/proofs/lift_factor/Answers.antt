@@ -3,10 +3,10 @@ use lib.Ieee.{of_bits}
 use Rattle.wing.specs.Promises.{lift_factor}
 use Rattle.wing.proofs.lift_factor.Goals as goal
 
-pub returns-then-constants : goal.returns-then-constants
+pub returns-in-Some : goal.returns-in-Some
 unfolding lift_factor
-returns-then-constants c = simp (c.factor.ensures, c.if-constants.true)
+returns-in-Some c = simp (c.factor.ensures, c.in-Some.is)
 
-pub returns : goal.returns
+pub returns-in-None : goal.returns-in-None
 unfolding lift_factor of_bits
-returns c = simp c.if-constants.false
+returns-in-None c = simp c.in-None.is
