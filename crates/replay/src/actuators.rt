@@ -117,11 +117,11 @@ fn rows(inputs: &mut Inputs) -> Option<Rows> {
 
 // The lift rotors of the rows.
 fn lift_group(rows: Rows, layout: MotorLayout) -> MotorGroup {
-    rows.rows[..rows.live()]
-        .iter()
-        .fold(MotorGroup::empty(layout, 1.0), |group, row| {
-            group.put_lift(*row)
-        })
+    let mut group = MotorGroup::empty(layout, 1.0);
+    for row in &rows.rows[..rows.live()] {
+        group = group.put_lift(*row);
+    }
+    group
 }
 
 // The marks and torques of the groups that the rows make.

@@ -35,9 +35,10 @@ impl TakesLines for Cases<'_> {
             return Ok(());
         }
         let case = line_words::read(line);
-        let answers = case
-            .as_ref()
-            .and_then(|case| self.list.answers(case.inputs()));
+        let answers = match &case {
+            Some(case) => self.list.answers(case.inputs()),
+            None => None,
+        };
         let same = match (&case, &answers) {
             (Some(case), Some(answers)) => agree(case.expected(), answers.words()),
             _ => false,
@@ -67,7 +68,5 @@ fn plain(b: u32) -> u32
 
 // Whether the words are the same numbers.
 fn agree(a: &[u32], b: &[u32]) -> bool {
-    a.iter()
-        .map(|word| plain(*word))
-        .eq(b.iter().map(|word| plain(*word)))
+    a.len() == b.len() && a.iter().zip(b).all(|(a, b)| plain(*a) == plain(*b))
 }
