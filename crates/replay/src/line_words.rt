@@ -1,5 +1,5 @@
 // A line of a list: input words, ` > `, answer words.
-ghost use Rattle.std.specs.Prelude.{IfSome, ◌<◌, ◌≤◌, length};
+ghost use Rattle.std.specs.Prelude.{IfSome, ◌≡◌, ◌<◌, ◌≤◌, drop, length, take};
 ghost use Rattle.arrayvec.specs.ArrayVec.{array_vec_len};
 
 use crate::words;
@@ -14,11 +14,15 @@ pub struct Case {
 }
 
 impl Case {
-    pub fn inputs(&self) -> &[u32] {
+    pub fn inputs(&self) -> &[u32]
+        ensures { result.now ≡ take self.now.inputs self.now.words.items }
+    {
         &self.words.as_slice()[..self.inputs]
     }
 
-    pub fn expected(&self) -> &[u32] {
+    pub fn expected(&self) -> &[u32]
+        ensures { result.now ≡ drop self.now.inputs self.now.words.items }
+    {
         &self.words.as_slice()[self.inputs..]
     }
 }

@@ -1,5 +1,5 @@
 // The numbers of a case: those that go in, and the words that come out.
-ghost use Rattle.std.specs.Prelude.{◌≡◌, ◌+◌, ◌*◌, ◌<◌, ◌≤◌, length};
+ghost use Rattle.std.specs.Prelude.{◌≡◌, ◌+◌, ◌<◌, ◌≤◌, ◌==◌, MatchOption, drop, length, take};
 ghost use Rattle.arrayvec.specs.ArrayVec.{array_vec_len};
 
 use arrayvec::ArrayVec;
@@ -12,15 +12,22 @@ pub struct Inputs<'a> {
 }
 
 impl<'a> Inputs<'a> {
-    pub fn new(words: &'a [u32]) -> Self {
+    pub fn new(words: &'a [u32]) -> Self
+        ensures { result.words.now ≡ words.now }
+    {
         Inputs { words }
     }
 
-    pub fn is_empty(&self) -> bool {
+    pub fn is_empty(&self) -> bool
+        ensures { result ≡ (length self.now.words.now == 0) }
+    {
         self.words.is_empty()
     }
 
-    fn words<const N: usize>(&mut self) -> Option<&'a [u32; N]> {
+    fn words<const N: usize>(&mut self) -> Option<&'a [u32; N]>
+        ensures given { MatchOption result (length self.old.words.now < N) (λ words. words.now ≡ take N self.old.words.now) }
+        ensures rest { MatchOption result (self.new ≡ self.old) (λ _. self.new.words.now ≡ drop N self.old.words.now) }
+    {
         let (words, rest) = self.words.split_first_chunk()?;
         self.words = rest;
         Some(words)
@@ -32,7 +39,9 @@ impl<'a> Inputs<'a> {
     }
 
     // Words that are floats.
-    pub fn numbers<const N: usize>(&mut self) -> Option<[f32; N]> {
+    pub fn numbers<const N: usize>(&mut self) -> Option<[f32; N]>
+        ensures { MatchOption result (self.new ≡ self.old) (λ _. self.new.words.now ≡ drop N self.old.words.now) }
+    {
         let mut numbers = [0.0; N];
         for (number, word) in numbers.iter_mut().zip(self.words::<N>()?) {
             *number = float::from_bits(*word);
@@ -98,7 +107,9 @@ impl Answers {
         answers
     }
 
-    pub fn words(&self) -> &[u32] {
+    pub fn words(&self) -> &[u32]
+        ensures { result.now ≡ self.now.words.items }
+    {
         self.words.as_slice()
     }
 
