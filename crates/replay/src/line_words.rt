@@ -1,104 +1,65 @@
 // A line of a list: input words, ` > `, answer words.
-ghost use Rattle.std.specs.Prelude.{◌≡◌, ◌<◌, ◌≤◌, length};
-ghost use Rattle.lines.specs.Page.{page_bytes};
+ghost use Rattle.std.specs.Prelude.{IfSome, ◌≡◌, ◌<◌, ◌≤◌, drop, length, take};
+ghost use Rattle.arrayvec.specs.ArrayVec.{array_vec_len};
 
 use crate::words;
+use arrayvec::ArrayVec;
 
-// What is read of a line up to `at`: `count` words in all, of which `inputs` stand before the mark.
-// 0 inputs: no mark was read, or the line is not one of a list.
-#[derive(Clone, Copy)]
-pub struct Line {
-    pub at: usize,
-    pub inputs: usize,
-    pub count: usize,
+// What a line says: its words, of which those before the mark are inputs. Where there is no mark, none is.
+#[derive(Drop)]
+pub struct Case {
+    words: ArrayVec<u32, 192>,
+    inputs: usize,
+    ghost order: { inputs ≤ array_vec_len words },
 }
 
-fn broken(s: &[u8]) -> Line
-    ensures { (result.at ≡ length s.now) × ((result.inputs ≤ result.count) × (result.count ≤ 192)) }
+impl Case {
+    pub fn inputs(&self) -> &[u32]
+        ensures { result.now ≡ take self.now.inputs self.now.words.items }
+    {
+        &self.words.as_slice()[..self.inputs]
+    }
+
+    pub fn expected(&self) -> &[u32]
+        ensures { result.now ≡ drop self.now.inputs self.now.words.items }
+    {
+        &self.words.as_slice()[self.inputs..]
+    }
+}
+
+// The word at the front of the line, and what stands behind it and the space that follows.
+fn split_word(line: &[u8]) -> Option<(u32, &[u8])>
+    ensures { IfSome result (λ p. length p.1.now < length line.now) }
 {
-    Line {
-        at: s.len(),
-        inputs: 0,
-        count: 0,
+    let (digits, rest) = line.split_first_chunk::<8>()?;
+    if !words::is_word(digits, 0) {
+        return None;
+    }
+    let word = words::word(digits, 0);
+    match rest {
+        [] => Some((word, rest)),
+        [b' ', rest @ ..] => Some((word, rest)),
+        _ => None,
     }
 }
 
-// Whether a word may end before i: the line ends there, or a space follows.
-fn is_gap(s: &[u8], i: usize) -> bool {
-    if i < s.len() {
-        return s[i] == b' ';
+// The case of a line; `None` where the line is not one of a list, or has more words than any.
+pub fn read(line: &[u8]) -> Option<Case> {
+    let mut words = ArrayVec::<u32, 192>::new();
+    let mut inputs = 0;
+    let mut rest = line;
+    while let Some(first) = rest.first() {
+        if *first == b'>' {
+            if inputs > 0 {
+                return None;
+            }
+            inputs = words.len();
+            rest = rest.get(2..).unwrap_or(&[]);
+        } else {
+            let (word, behind) = split_word(rest)?;
+            words.try_push(word).ok()?;
+            rest = behind;
+        }
     }
-    true
-}
-
-// On over the mark at l.at, the only one of its line.
-fn past_mark(s: &[u8], l: Line) -> Line
-    requires { (l.at < length s.now) × ((length s.now ≤ page_bytes) × (l.count ≤ 192)) }
-    ensures { (l.at < result.at) × ((result.inputs ≤ result.count) × (result.count ≤ 192)) }
-{
-    if l.inputs > 0 {
-        return broken(s);
-    }
-    Line {
-        at: l.at + 2,
-        inputs: l.count,
-        count: l.count,
-    }
-}
-
-// On over the word at l.at, which goes into w.
-fn past_word(s: &[u8], l: Line, w: &mut [u32; 192]) -> Line
-    requires at_in_bounds { (l.at < length s.now) × (length s.now ≤ page_bytes) }
-    requires inputs_le_count { (l.inputs ≤ l.count) × (l.count ≤ 192) }
-    ensures { (l.at < result.at) × ((result.inputs ≤ result.count) × (result.count ≤ 192)) }
-{
-    let at = l.at;
-    let n = l.count;
-    if at + 8 > s.len() {
-        return broken(s);
-    }
-    if n >= 192 {
-        return broken(s);
-    }
-    if !words::is_word(s, at) {
-        return broken(s);
-    }
-    if !is_gap(s, at + 8) {
-        return broken(s);
-    }
-    w[n] = words::word(s, at);
-    Line {
-        at: at + 9,
-        inputs: l.inputs,
-        count: n + 1,
-    }
-}
-
-fn step(s: &[u8], l: Line, w: &mut [u32; 192]) -> Line
-    requires at_in_bounds { (l.at < length s.now) × (length s.now ≤ page_bytes) }
-    requires inputs_le_count { (l.inputs ≤ l.count) × (l.count ≤ 192) }
-    ensures { (l.at < result.at) × ((result.inputs ≤ result.count) × (result.count ≤ 192)) }
-{
-    let at = l.at;
-    if s[at] == b'>' {
-        return past_mark(s, l);
-    }
-    past_word(s, l, w)
-}
-
-// The words of the line s, in order, at the start of w.
-pub fn read(s: &[u8], w: &mut [u32; 192]) -> Line
-    requires { length s.now ≤ page_bytes }
-    ensures inputs { result.inputs ≤ result.count }
-    ensures count { result.count ≤ 192 }
-{
-    let mut l = Line {
-        at: 0,
-        inputs: 0,
-        count: 0,
-    };
-    while l.at < s.len() {
-        l = step(s, l, w);
-    }
-    l
+    Some(Case { words, inputs })
 }

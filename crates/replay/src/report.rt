@@ -1,6 +1,6 @@
 // What the program says.
-ghost use Rattle.std.specs.Prelude.{◌≤◌};
-
+use crate::numbers::Answers;
+use crate::tally::Tally;
 use std::io;
 
 // The case that differs: its number, its line with what is expected, and what came.
@@ -8,16 +8,15 @@ pub fn difference(
     rt: &HostRuntime,
     case: u64,
     line: &[u8],
-    out: &[u32; 64],
-    n: usize,
-) -> io::Result<()>
-    requires { n ≤ 64 }
-{
+    answers: Option<&Answers>,
+) -> io::Result<()> {
     print!(rt; "case {case}: ")?;
     rt.stdout().write_all(line)?;
     print!(rt; " but came")?;
-    for word in &out[..n] {
-        print!(rt; " {word:08X}")?;
+    if let Some(answers) = answers {
+        for word in answers.words() {
+            print!(rt; " {word:08X}")?;
+        }
     }
     println!(rt)
 }
@@ -26,6 +25,6 @@ pub fn missing(rt: &HostRuntime, name: &str) -> io::Result<()> {
     println!(rt; "{name} is missing")
 }
 
-pub fn counts(rt: &HostRuntime, name: &str, cases: u64, differ: u64) -> io::Result<()> {
-    println!(rt; "{name} {cases} cases, {differ} differ")
+pub fn counts(rt: &HostRuntime, name: &str, tally: Tally) -> io::Result<()> {
+    println!(rt; "{name} {tally}")
 }

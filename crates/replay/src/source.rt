@@ -1,101 +1,62 @@
-// A file read line by line through a buffer of fixed size.
-ghost use Rattle.std.specs.Prelude.{◌≡◌, ◌+◌, ◌≤◌, length};
+// A file read line by line through a page.
+ghost use Rattle.std.specs.Prelude.{◌≤◌};
 ghost use Rattle.lines.specs.Page.{page_bytes};
 
 use lines::PAGE_BYTES;
 use std::io::Read;
 
-// The bytes from `at` to `end` of the buffer are read and not yet taken.
-#[derive(Clone, Copy)]
-pub struct Source {
-    pub at: usize,
-    pub end: usize,
+// The bytes from `at` to `end` of the page are read and not yet taken.
+#[derive(Drop)]
+pub struct Source<'a, R> {
+    file: &'a mut R,
+    page: [u8; PAGE_BYTES],
+    at: usize,
+    end: usize,
+    ghost order: { at ≤ end },
+    ghost within: { end ≤ page_bytes },
 }
 
-// Nothing is read yet.
-pub fn start() -> Source
-    ensures { (result.at ≤ result.end) × (result.end ≤ page_bytes) }
-{
-    Source { at: 0, end: 0 }
-}
-
-// Where the line at `at` ends: at its newline, or at `end` where none follows.
-pub fn line_end(buf: &[u8; PAGE_BYTES], at: usize, end: usize) -> usize
-    requires order { at ≤ end }
-    requires within { end ≤ page_bytes }
-    ensures low { at ≤ result }
-    ensures high { result ≤ end }
-{
-    let mut i = at;
-    while i < end {
-        if buf[i] == b'\n' {
-            return i;
+impl<'a, R: Read> Source<'a, R> {
+    // Nothing is read yet.
+    pub fn new(file: &'a mut R) -> Self {
+        Source {
+            file,
+            page: [0; PAGE_BYTES],
+            at: 0,
+            end: 0,
         }
-        i += 1;
     }
-    end
-}
 
-// Moves the bytes from `at` to `end` to the buffer's start.
-fn to_front(buf: &mut [u8; PAGE_BYTES], at: usize, end: usize)
-    requires order { at ≤ end }
-    requires within { end ≤ page_bytes }
-{
-    let mut i = at;
-    while i < end {
-        buf[i - at] = buf[i];
-        i += 1;
-    }
-}
-
-// Reads on into the buffer from n until it is full or the file ends, and answers how many bytes came. A read that fails ends the file.
-fn read_behind<R: Read>(file: &mut R, buf: &mut [u8], n: usize) -> usize
-    requires { n ≤ length buf.old }
-    ensures { n + result ≤ length buf.old }
-{
-    let mut end = n;
-    while end < buf.len() {
-        let more = file.read(&mut buf[end..]).unwrap_or(0);
-        if more == 0 {
-            break;
+    // The next line, without its newline, as far as it fits on the page; `None` where the file has ended.
+    pub fn line(&mut self) -> Option<&[u8]> {
+        if !self.page[self.at..self.end].contains(&b'\n') {
+            self.refill();
         }
-        end += more;
+        let left = &self.page[self.at..self.end];
+        if left.is_empty() {
+            return None;
+        }
+        let len = left
+            .iter()
+            .position(|byte| *byte == b'\n')
+            .unwrap_or(left.len());
+        let from = self.at;
+        self.at = (from + len + 1).min(self.end);
+        let page = &self.page;
+        Some(&page[from..from + len])
     }
-    end - n
-}
 
-fn refill<R: Read>(file: &mut R, buf: &mut [u8; PAGE_BYTES], s: Source) -> Source
-    requires { (s.at ≤ s.end) × (s.end ≤ page_bytes) }
-    ensures { (result.at ≤ result.end) × (result.end ≤ page_bytes) }
-{
-    to_front(buf, s.at, s.end);
-    let n = s.end - s.at;
-    let more = read_behind(file, buf, n);
-    Source {
-        at: 0,
-        end: n + more,
-    }
-}
-
-// Sees to it that the whole next line is in the buffer, as far as it fits. Nothing from `at` to
-// `end`: the file has ended.
-pub fn with_line<R: Read>(file: &mut R, buf: &mut [u8; PAGE_BYTES], s: Source) -> Source
-    requires { (s.at ≤ s.end) × (s.end ≤ page_bytes) }
-    ensures { (result.at ≤ result.end) × (result.end ≤ page_bytes) }
-{
-    if line_end(buf, s.at, s.end) < s.end {
-        return s;
-    }
-    refill(file, buf, s)
-}
-
-// After the line that ends at `to`, and its newline.
-pub fn past(s: Source, to: usize) -> Source
-    requires { to ≤ s.end }
-    ensures { (result.at ≤ result.end) × (result.end ≡ s.end) }
-{
-    Source {
-        at: if to < s.end { to + 1 } else { to },
-        end: s.end,
+    // Moves what is left to the page's start, and reads on until the page is full or the file ends. A read that fails ends the file.
+    fn refill(&mut self) {
+        self.page.copy_within(self.at..self.end, 0);
+        self.end -= self.at;
+        self.at = 0;
+        while self.end < PAGE_BYTES {
+            let more = self.file.read(&mut self.page[self.end..]).unwrap_or(0);
+            if more == 0 {
+                break;
+            }
+            self.end += more;
+        }
     }
 }

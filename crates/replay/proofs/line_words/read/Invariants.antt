@@ -1,9 +1,10 @@
--- `replay::line_words::read` meets its contract. Assumes nothing.
-use Rattle.std.proofs.Common.{◌-◌, ◌≤◌, length}
+-- The words before the mark are inputs.
+use Rattle.std.proofs.Common.{◌≤◌, length}
+use Rattle.arrayvec.specs.ArrayVec.{array_vec_len}
 use Rattle.replay.proofs.line_words.read.Given as goal
 
-abbrev pub invariant-loop-l : goal.invariant-loop-l
-invariant-loop-l l = (l.l.inputs ≤ l.l.count) × (l.l.count ≤ 192)
+abbrev pub invariant-loop-first : goal.invariant-loop-first
+invariant-loop-first l = l.inputs ≤ array_vec_len l.words
 
-abbrev pub decreases-loop-l : goal.decreases-loop-l
-decreases-loop-l l = length l.s - l.l.at
+abbrev pub decreases-loop-first : goal.decreases-loop-first
+decreases-loop-first l = length l.rest

@@ -1,6 +1,0 @@
--- `replay::flights::airframe_in` meets its contract. Assumes nothing.
-use Rattle.std.proofs.Common.{sym, length-take-le}
-use Rattle.replay.proofs.flights.airframe_in.Goals as goal
-
-pub slice_bounds-read_airframe-end : goal.slice_bounds-read_airframe-end
-slice_bounds-read_airframe-end c = sym (length-take-le c.args.end c.args.bytes.now c.requires)

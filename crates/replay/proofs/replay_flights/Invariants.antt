@@ -1,7 +1,0 @@
--- What is read and not yet taken lies within the buffer, and the printed lines that were found within their page.
-use Rattle.std.proofs.Common.{◌≤◌}
-use Rattle.lines.specs.Page.{page_bytes}
-use Rattle.replay.proofs.replay_flights.Given as goal
-
-abbrev pub invariant-loop : goal.invariant-loop
-invariant-loop g l = (l.s.at ≤ l.s.end) × (l.s.end ≤ page_bytes) × (l.w.page.at ≤ page_bytes)
