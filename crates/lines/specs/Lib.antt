@@ -7,4 +7,5 @@ pub mod Text
 pub mod Page
 pub mod Compare
 pub mod Tracks
+pub mod InParts
 pub mod Verdict

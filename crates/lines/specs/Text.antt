@@ -1,7 +1,6 @@
 -- The text of the lines, as bytes (01, "Flown by hand"). Definitions only.
 use Rattle.std.specs.Prelude.{ℕ, zero, suc, ◌/◌, ◌%◌, cond, List, [], ◌∷◌, ◌++◌, ◌==◌, nat_lt, to_bits, Float}
 use Rattle.std.specs.Float.{binary32}
-use Rattle.std.proofs.lemmas.List.Edits.{sets}
 use Rattle.answers.specs.Answers.{number_of, place_of}
 use Rattle.answers.specs.declared.Answer.{Answer}
 use Rattle.answers.specs.declared.Answer.TheVariants.{WrongLength}
@@ -13,10 +12,6 @@ use Rattle.lines.specs.Glyph.{glyph_of}
 use Rattle.trace.specs.Tick.{tick_bytes}
 use Rattle.vector.specs.declared.Quaternion.{Quaternion}
 use Rattle.vector.specs.declared.Vec3.{Vec3}
-
--- a page with a text put at an index, byte by byte
-unfoldable pub overwrite : List ℕ → ℕ → List ℕ → List ℕ
-overwrite page at text = sets page at text
 
 -- the last k digits of n in the base b, the most significant first
 unfoldable pub digits_of : ℕ → ℕ → ℕ → List ℕ

@@ -1,5 +1,5 @@
 -- Ticks flown one after the other, and the text of their lines. Definitions only.
-use Rattle.std.specs.Prelude.{ℕ, ◌+◌, ◌%◌, ◌^◌, List, [], ◌++◌}
+use Rattle.std.specs.Prelude.{◌≡◌, ℕ, ◌+◌, ◌%◌, ◌^◌, List, [], ◌++◌}
 use mathlib.Core.List.{foldl}
 use Rattle.airframe.specs.declared.Airframe.{Airframe}
 use Rattle.flight.specs.declared.Flight.{Flight}
@@ -42,3 +42,19 @@ log_of a p ts = foldl (log_on a) p ts
 -- the ticks of a trace, after those that p has flown
 abbrev pub log_over : Airframe → Flown → List ℕ → TickLog
 log_over a p s = log_of a (log_from p.flight p.index) (ticks_of s)
+
+-- ---- what a program keeps of a flight alone
+
+-- before the first tick
+pub record StartsAlone (f : Flight) (p : Flown) : Type 0 where
+  pub flight : p.flight ≡ f
+  pub index : p.index ≡ 0
+
+-- some ticks lead from p to q
+pub record LeadsAlone (a : Airframe) (p : Flown) (ts : List Tick) (q : Flown) : Type 0 where
+  pub flight : q.flight ≡ (log_of a (log_from p.flight p.index) ts).flight
+  pub index : q.index ≡ (log_of a (log_from p.flight p.index) ts).index
+
+-- their lines
+abbrev pub lines_alone : Airframe → Flown → List Tick → List ℕ
+lines_alone a p ts = (log_of a (log_from p.flight p.index) ts).text

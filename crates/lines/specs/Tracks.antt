@@ -1,5 +1,5 @@
 -- A flight and its reflection, tick by tick, and their lines. Definitions only.
-use Rattle.std.specs.Prelude.{ℕ, Bool, cond, List, [], ◌++◌, ◌==◌}
+use Rattle.std.specs.Prelude.{◌≡◌, ℕ, cond, List, [], ◌++◌, ◌==◌}
 use mathlib.Core.List.{foldl}
 use Rattle.airframe.specs.Reflection.{reflect_airframe}
 use Rattle.airframe.specs.declared.Airframe.{Airframe}
@@ -8,13 +8,12 @@ use Rattle.answers.specs.declared.Answer.{Answer}
 use Rattle.flight.specs.Reflection.{reflect_flight, reflect_tick}
 use Rattle.flight.specs.declared.Flight.{Flight}
 use Rattle.flight.specs.declared.Tick.{Tick}
-use Rattle.lines.specs.TickLog.{log_over, one_more}
+use Rattle.lines.specs.TickLog.{one_more}
 use Rattle.lines.specs.Text.{line_text, mirrored_text}
 use Rattle.trace.specs.Trace.{ticks_of}
 use Rattle.wing.specs.Tick.{tick_of}
 use Rattle.wing.specs.declared.TickResult.{TickResult}
 use Rattle.lines.specs.Compare.{mirrored_tick}
-use Rattle.lines.specs.declared.flown.Flown.{Flown}
 use Rattle.lines.specs.declared.track.Track.{Track}
 
 -- the two states, how many ticks there were, how many of them each flight accepted, and the first that does not mirror (0: none)
@@ -95,25 +94,16 @@ tracks_flown a p s = (shown_over a (tracks_of p) (ticks_of s)).tracks
 abbrev pub text_flown : Airframe → Track → List ℕ → List ℕ
 text_flown a p s = (shown_over a (tracks_of p) (ticks_of s)).text
 
--- ---- a page of a program: with its reflection beside the flight, or the flight alone, whose ticks are counted
+-- ---- what a program keeps of a flight and its reflection
 
--- the flight of the tracks, alone
-abbrev alone : Track → Flown
-alone p = record { flight = p.first; index = p.ticks; at = 0 }
+-- before the first tick
+abbrev pub StartsBeside : Flight → Track → Type 0
+StartsBeside f p = tracks_of p ≡ tracks_at_start f
 
--- the tracks after a page of the flight alone
-abbrev tracks_alone : Airframe → Track → List ℕ → Tracks
-tracks_alone a p s = record {
-  first = (log_over a (alone p) s).flight;
-  second = p.second;
-  ticks = (log_over a (alone p) s).index;
-  accepted = p.accepted;
-  mirrored = p.accepted_mirrored;
-  differs = p.differs;
-}
+-- some ticks lead from p to q
+abbrev pub LeadsBeside : Airframe → Track → List Tick → Track → Type 0
+LeadsBeside a p ts q = tracks_of q ≡ (shown_over a (tracks_of p) ts).tracks
 
-unfoldable pub tracks_over : Bool → Airframe → Track → List ℕ → Tracks
-tracks_over beside a p s = cond beside (tracks_flown a p s) (tracks_alone a p s)
-
-unfoldable pub page_text : Bool → Airframe → Track → List ℕ → List ℕ
-page_text beside a p s = cond beside (text_flown a p s) (log_over a (alone p) s).text
+-- their lines
+abbrev pub lines_beside : Airframe → Track → List Tick → List ℕ
+lines_beside a p ts = (shown_over a (tracks_of p) ts).text

@@ -7,7 +7,7 @@ ghost use Rattle.lines.specs.Opening.{FromBlock, FromBlocks, FromState, wanted_b
 ghost use Rattle.lines.specs.Page.{page_bytes};
 
 use crate::input::{Filled, Input};
-use crate::page::PAGE_BYTES;
+use crate::page::{PAGE_BYTES, Page};
 use crate::{input, page};
 use airframe::Airframe;
 use airframe_block::{AirframeRead, Announced, HEADER_BYTES, MOST_BYTES};
@@ -126,9 +126,9 @@ pub fn open<R: Read>(rt: &HostRuntime, program: &[u8], name: &[u8], input: &mut 
     let opened = read_blocks(input);
     let answer = opened.answer;
     if !answer.is_done() {
-        let mut out = page::blank();
-        let end = page::put_refusal(&mut out, 0, answer);
-        page::flush(rt, program, name, input.error, &out, end);
+        let mut page = Page::new();
+        page.put_refusal(answer);
+        page::flush(rt, program, name, input.error, &page);
     }
     opened
 }
