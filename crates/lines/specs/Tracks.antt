@@ -1,5 +1,7 @@
 -- A flight and its reflection, tick by tick, and their lines. Definitions only.
-use Rattle.std.specs.Prelude.{◌≡◌, ℕ, cond, List, [], ◌++◌, ◌==◌}
+use Rattle.std.specs.Prelude.{◌≡◌, ℕ, Option, None, Some, cond, List, [], ◌++◌, ◌==◌}
+use Rattle.std.specs.Int.NonZero.{non_zero_u64_get}
+use Rattle.std.specs.declared.num.NonZeroU64.{NonZeroU64}
 use mathlib.Core.List.{foldl}
 use Rattle.airframe.specs.Reflection.{reflect_airframe}
 use Rattle.airframe.specs.declared.Airframe.{Airframe}
@@ -25,7 +27,12 @@ pub record Tracks : Type 0 where
   pub mirrored : ℕ
   pub differs : ℕ
 
--- those of the program, which also knows where its lines end
+-- a tick's index, 0 for none
+abbrev pub tick_or_0 : Option NonZeroU64 → ℕ
+tick_or_0 None = 0
+tick_or_0 (Some tick) = non_zero_u64_get tick
+
+-- those of the program
 abbrev pub tracks_of : Track → Tracks
 tracks_of p = record {
   first = p.first;
@@ -33,7 +40,7 @@ tracks_of p = record {
   ticks = p.ticks;
   accepted = p.accepted;
   mirrored = p.accepted_mirrored;
-  differs = p.differs;
+  differs = tick_or_0 p.differs;
 }
 
 unfoldable pub tracks_at_start : Flight → Tracks

@@ -1,4 +1,4 @@
-// Whether two ticks mirror each other, as numbers: zeros alike, NaNs alike.
+// Whether two ticks mirror each other, as numbers: zeros alike, NaNs alike. (No derived `==`, to which a NaN is unlike itself.)
 ghost use Rattle.std.specs.Prelude.{◌≡◌};
 ghost use Rattle.ordered.specs.Ordered.{all_pass};
 ghost use Rattle.lines.specs.Compare as Compare;
@@ -40,10 +40,8 @@ fn same_slots(xs: [f32; 8], ys: [f32; 8]) -> bool
     ensures { result ≡ all_pass (Compare.same_slot xs ys) 8 }
 {
     let mut ok = true;
-    let mut i = 0usize;
-    while i < 8 {
+    for i in 0..8 {
         ok = ordered::both(ok, same(xs[i], ys[i]));
-        i += 1;
     }
     ok
 }

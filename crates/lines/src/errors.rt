@@ -1,6 +1,14 @@
 // What the programs say on standard error.
 use std::io;
 
+// What keeps a program from going on: its input cannot be opened, or read to its end, or the lines cannot be written.
+#[derive(Clone, Copy)]
+pub enum Trouble {
+    Unopened(io::Error),
+    Unread(io::Error),
+    Unwritten(io::Error),
+}
+
 // What cannot be said there is lost.
 fn say(rt: &HostRuntime, text: &[u8]) {
     let _ = rt.stderr().write_all(text);
@@ -42,17 +50,11 @@ fn because(rt: &HostRuntime, program: &[u8], what: &[u8], name: &[u8], error: io
     say(rt, b"\n");
 }
 
-// The file cannot be opened.
-pub fn unopened(rt: &HostRuntime, program: &[u8], name: &[u8], error: io::Error) {
-    because(rt, program, b": cannot open ", name, error);
-}
-
-// The file cannot be read to its end.
-pub fn unread(rt: &HostRuntime, program: &[u8], name: &[u8], error: io::Error) {
-    because(rt, program, b": cannot read ", name, error);
-}
-
-// The lines cannot be written.
-pub fn unwritten(rt: &HostRuntime, program: &[u8], error: io::Error) {
-    because(rt, program, b": cannot write ", b"standard output", error);
+// What keeps the program from going on with the input of that name.
+pub fn report(rt: &HostRuntime, program: &[u8], name: &[u8], trouble: Trouble) {
+    match trouble {
+        Trouble::Unopened(error) => because(rt, program, b": cannot open ", name, error),
+        Trouble::Unread(error) => because(rt, program, b": cannot read ", name, error),
+        Trouble::Unwritten(error) => because(rt, program, b": cannot write ", b"standard output", error),
+    }
 }

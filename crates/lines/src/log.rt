@@ -61,8 +61,10 @@ pub fn fly_ticks<L: Log>(a: Airframe, p: L, trace: &[u8], page: &mut Page) -> L
     ensures within { length page.new ≤ length page.old + L.room * tick_count trace.now }
 {
     let mut log = p;
-    for i in 0..trace::tick_count(trace) {
-        log = log.fly(a, trace::tick_at(trace, i), page);
+    let count = trace::tick_count(trace);
+    for i in 0..count {
+        let t = trace::tick_at(trace, i);
+        log = log.fly(a, t, page);
     }
     log
 }

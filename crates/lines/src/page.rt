@@ -3,9 +3,8 @@ ghost use Rattle.std.specs.Prelude.{◌≡◌, ◌+◌, ◌<◌, ◌≤◌, ◌+
 ghost use Rattle.lines.specs.Text.{byte_text, digits_of, end_text, refusal_text};
 ghost use Rattle.lines.specs.Page.{line_bytes, page_bytes};
 
-use crate::{digits, errors};
+use crate::digits;
 use answers::Answer;
-use std::io;
 use std::marker::Model;
 
 // How many bytes have room on a page.
@@ -37,12 +36,6 @@ impl Page {
             bytes: [0; PAGE_BYTES],
             len: 0,
         }
-    }
-
-    pub fn len(&self) -> usize
-        ensures { result ≡ length self.now }
-    {
-        self.len
     }
 
     pub fn clear(&mut self)
@@ -115,24 +108,4 @@ impl Page {
             self.put_refusal(Answer::WrongLength);
         }
     }
-}
-
-// Writes the page, and answers whether all went well. If not, it says what went wrong: with writing the page or, where
-// `failed` has the error of a read, with reading what it was made of.
-pub fn flush(
-    rt: &HostRuntime,
-    program: &[u8],
-    name: &[u8],
-    failed: Option<io::Error>,
-    page: &Page,
-) -> bool {
-    if let Err(error) = rt.stdout().write_all(page.text()) {
-        errors::unwritten(rt, program, error);
-        return false;
-    }
-    if let Some(error) = failed {
-        errors::unread(rt, program, name, error);
-        return false;
-    }
-    true
 }

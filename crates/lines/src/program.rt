@@ -5,11 +5,12 @@ ghost use Rattle.lines.specs.Page.{line_bytes, page_bytes};
 ghost use Rattle.trace.specs.Tick.{tick_bytes};
 ghost use Rattle.trace.specs.Trace.{ticks_of};
 
+use crate::errors::Trouble;
 use crate::input::{Asked, Input};
 use crate::log::Log;
 use crate::opening::TICKS_BYTES;
 use crate::page::{PAGE_BYTES, Page};
-use crate::{errors, input, log, opening, page};
+use crate::{errors, input, log, opening};
 use airframe::Airframe;
 use flight::Flight;
 use std::io::{IsTerminal, Read};
@@ -25,62 +26,64 @@ fn fly_page<L: Log>(a: Airframe, p: L, trace: &[u8], page: &mut Page) -> L
     log::fly_ticks(a, p, trace, page)
 }
 
+// Writes the page, which may be made of what was read before a read failed.
+fn print<R>(rt: &HostRuntime, input: &Input<R>, page: &Page) -> Result<(), Trouble> {
+    rt.stdout().write_all(page.text()).map_err(Trouble::Unwritten)?;
+    match input.error {
+        Some(error) => Err(Trouble::Unread(error)),
+        None => Ok(()),
+    }
+}
+
 // Flies all ticks of the input from f, where airframe and state are accepted.
-fn fly_input<L: Log, R: Read>(
-    rt: &HostRuntime,
-    program: &[u8],
-    a: Airframe,
-    f: Flight,
-    input: &mut Input<R>,
-    name: &[u8],
-)
+fn fly_input<L: Log, R: Read>(rt: &HostRuntime, a: Airframe, f: Flight, input: &mut Input<R>) -> Result<(), Trouble>
     requires { Ready a f }
 {
-    let mut ticks = [0; PAGE_BYTES];
+    let mut buf = [0; TICKS_BYTES];
     let mut page = Page::new();
     let mut log = L::start(f);
     for _ in 0..u64::MAX {
-        let got = opening::read_ticks(input, &mut ticks);
-        let n = got.end;
-        log = fly_page(a, log, &ticks[..n], &mut page);
-        log.put_end(n, &mut page);
-        let well = page::flush(rt, program, name, input.error, &page);
-        if !well {
-            return;
+        let trace = opening::read_ticks(input, &mut buf);
+        log = fly_page(a, log, trace, &mut page);
+        log.put_end(trace.len(), &mut page);
+        print(rt, input, &page)?;
+        if trace.len() < TICKS_BYTES {
+            break;
         }
-        if n < TICKS_BYTES {
-            return;
+    }
+    Ok(())
+}
+
+// Flies the input, where its airframe and its state are accepted; else it writes the refusal.
+fn fly<L: Log, R: Read>(rt: &HostRuntime, input: &mut Input<R>) -> Result<(), Trouble> {
+    match opening::open(input) {
+        Ok(opened) => fly_input::<L, R>(rt, opened.airframe, opened.flight, input),
+        Err(answer) => {
+            let mut page = Page::new();
+            page.put_refusal(answer);
+            print(rt, input, &page)
         }
     }
 }
 
-// Flies the input of that name, where its airframe and its state are accepted.
-fn fly<L: Log, R: Read>(rt: &HostRuntime, program: &[u8], name: &[u8], input: &mut Input<R>) {
-    let o = opening::open(rt, program, name, input);
-    let answer = o.answer;
-    if answer.is_done() {
-        fly_input::<L, R>(rt, program, o.airframe, o.flight, input, name);
-    }
-}
-
-// Flies the file that the first argument names.
-fn fly_named<L: Log>(rt: &HostRuntime, program: &[u8]) {
-    let mut page = [0; PAGE_BYTES];
-    let n = input::first_argument(rt, &mut page);
-    let name = &page[..n];
-    match input::open_named(rt, name) {
-        Ok(file) => {
-            let mut from = input::of(file);
-            fly::<L, _>(rt, program, name, &mut from);
-        }
-        Err(error) => errors::unopened(rt, program, name, error),
-    }
+// Flies the file of that name.
+fn fly_named<L: Log>(rt: &HostRuntime, name: &[u8]) -> Result<(), Trouble> {
+    let file = input::open_named(rt, name).map_err(Trouble::Unopened)?;
+    let mut input = input::of(file);
+    fly::<L, _>(rt, &mut input)
 }
 
 // Flies standard input.
-fn fly_standard_input<L: Log>(rt: &HostRuntime, program: &[u8]) {
-    let mut from = input::of(rt.stdin());
-    fly::<L, _>(rt, program, b"standard input", &mut from);
+fn fly_standard_input<L: Log>(rt: &HostRuntime) -> Result<(), Trouble> {
+    let mut input = input::of(rt.stdin());
+    fly::<L, _>(rt, &mut input)
+}
+
+// Says on standard error what a program could not do with the input of that name.
+fn say(rt: &HostRuntime, program: &[u8], name: &[u8], done: Result<(), Trouble>) {
+    if let Err(trouble) = done {
+        errors::report(rt, program, name, trouble);
+    }
 }
 
 // Flies the file or standard input that the program is asked to read, where its airframe and its state are accepted. What it cannot
@@ -88,8 +91,12 @@ fn fly_standard_input<L: Log>(rt: &HostRuntime, program: &[u8]) {
 pub fn fly_file<L: Log>(rt: &HostRuntime, program: &[u8]) {
     let asked = input::asked_for(input::word_count(rt), rt.stdin().is_terminal());
     match asked {
-        Asked::File => fly_named::<L>(rt, program),
-        Asked::StandardInput => fly_standard_input::<L>(rt, program),
+        Asked::File => {
+            let mut buf = [0; PAGE_BYTES];
+            let name = input::first_argument(rt, &mut buf);
+            say(rt, program, name, fly_named::<L>(rt, name));
+        }
+        Asked::StandardInput => say(rt, program, b"standard input", fly_standard_input::<L>(rt)),
         Asked::Nothing => errors::usage(rt, program),
     }
 }

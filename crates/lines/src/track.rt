@@ -11,10 +11,11 @@ use crate::page::Page;
 use airframe::Airframe;
 use answers::Answer;
 use flight::{Flight, Tick};
+use std::num::NonZeroU64;
 use wing::TickResult;
 
-// The two states after the ticks flown, how many they were, how many of them each flight accepted, and the first that does not mirror
-// (0 for none).
+// The two states after the ticks flown, how many they were, how many of them each flight accepted, and the first that does not
+// mirror.
 #[derive(Clone, Copy)]
 pub struct Track {
     pub first: Flight,
@@ -22,7 +23,7 @@ pub struct Track {
     pub ticks: u64,
     pub accepted: u64,
     pub accepted_mirrored: u64,
-    pub differs: u64,
+    pub differs: Option<NonZeroU64>,
 }
 
 // One more where the answer is 0.
@@ -36,16 +37,20 @@ fn counted(count: u64, answer: Answer) -> u64
 }
 
 // The first tick that does not mirror, this one being `index`.
-fn first_unlike(differs: u64, index: u64, x: TickResult, y: TickResult) -> u64
-    ensures { result ≡ Tracks.unlike_of differs index x y }
+#[tactic(auto, unfolding(crate::specs::Tracks::unlike_of))]
+fn first_unlike(
+    differs: Option<NonZeroU64>,
+    index: u64,
+    x: TickResult,
+    y: TickResult,
+) -> Option<NonZeroU64>
+    ensures { Tracks.tick_or_0 result ≡ Tracks.unlike_of (Tracks.tick_or_0 differs) index x y }
 {
-    if differs != 0 {
-        return differs;
+    match differs {
+        Some(_) => differs,
+        None if compare::is_mirrored(x, y) => None,
+        None => NonZeroU64::new(index),
     }
-    if compare::is_mirrored(x, y) {
-        return 0;
-    }
-    index
 }
 
 impl Page {
@@ -100,7 +105,7 @@ impl Log for Track {
             ticks: 0,
             accepted: 0,
             accepted_mirrored: 0,
-            differs: 0,
+            differs: None,
         }
     }
 

@@ -1,5 +1,5 @@
 -- `lines::compare::same_slots` meets its contract. Assumes nothing.
-use Rattle.std.proofs.Common.{Bool, false, cond, refl, ap, ◌∙◌, le_antisymm, rules}
+use Rattle.std.proofs.Common.{Bool, false, cond, refl, ap, ◌∙◌}
 use Rattle.lines.specs.Compare.{same_slot}
 use Rattle.ordered.specs.Ordered.{all_pass}
 use Rattle.ordered.proofs.Ordered.{pass-more}
@@ -7,16 +7,10 @@ use Rattle.lines.proofs.compare.same_slots.Goals as goal
 
 pub loop-i-init : goal.loop-i-init
 unfolding all_pass
-loop-i-init c = (search rules, refl)
+loop-i-init c = refl
 
 pub loop-i-preserved : goal.loop-i-preserved
 unfolding same_slot
 loop-i-preserved c =
-    let s = c in (
-      search rules,
-      pass-more _ s.loop-i.i s.loop-i.ok _ s.loop-i.invariant.1
-          (c.both-ok.ensures ∙ ap (λ (t : Bool). cond t s.loop-i.ok false) c.same.ensures),
-    )
-
-pub returns : goal.returns
-returns c = c.loop-i.invariant.1 ∙ ap (all_pass _) (le_antisymm c.loop-i.invariant.0 c.loop-i-test.false)
+    let l = c.loop-i in
+    pass-more _ l.i l.ok _ l.invariant (c.both-ok.ensures ∙ ap (λ (t : Bool). cond t l.ok false) c.same.ensures)

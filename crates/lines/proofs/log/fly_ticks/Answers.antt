@@ -17,15 +17,15 @@ loop-i-init g c =
     let a = c.args in
     let page : List ℕ = a.page.now in
     let laws = g.met.L.Log in
-    (laws.none a.a a.p, sym (ap (λ (x : List ℕ). page ++ x) (laws.no_lines a.a a.p) ∙ append-nil page), search rules)
+    (search rules, laws.none a.a a.p, sym (ap (λ (x : List ℕ). page ++ x) (laws.no_lines a.a a.p) ∙ append-nil page), search rules)
 
 pub fly-log-requires : goal.fly-log-requires
 fly-log-requires g c =
     let l = c.loop-i in
     let room = g.L.Log.room in
     let n = tick_count c.args.trace.now in
-    let more : room * (l.i + 1) ≤ room * n = mul-le room (l.i + 1) room n (omega arith) (omega (arith, c.tick_count-i-end.ensures, c.loop-i-test.true)) in
-    omega (arith, more, l.invariant.2, c.requires)
+    let more : room * (l.i + 1) ≤ room * n = mul-le room (l.i + 1) room n (omega arith) (omega (arith, l.invariant.0, c.loop-i-test.true)) in
+    omega (arith, more, l.invariant.3, c.requires)
 
 pub loop-i-preserved : goal.loop-i-preserved
 loop-i-preserved g c =
@@ -35,18 +35,19 @@ loop-i-preserved g c =
     let laws = g.met.L.Log in
     let lines = g.L.Log.lines in
     let s : List ℕ = a.trace.now in
-    let t : Tick = c.tick_at.result in
+    let t : Tick = c.tick_at-t.result in
     let ts : List Tick = ticks_from s 0 l.i in
     let whole : ts ++ (t ∷ []) ≡ ticks_from s 0 (l.i + 1) =
-    ap (λ (x : Tick). ts ++ (x ∷ [])) c.tick_at.ensures ∙ sym (ticks-more s 0 l.i l.i (omega arith)) ∙ ap (ticks_from s 0) (sym (add-one l.i)) in (
+    ap (λ (x : Tick). ts ++ (x ∷ [])) c.tick_at-t.ensures ∙ sym (ticks-more s 0 l.i l.i (omega arith)) ∙ ap (ticks_from s 0) (sym (add-one l.i)) in (
+      l.invariant.0,
       subst (λ (xs : List Tick). g.L.Log.leads a.a a.p xs c.fly-log.result) whole
-          (laws.more a.a a.p l.log c.fly-log.result ts (t ∷ []) l.invariant.0 f.log),
+          (laws.more a.a a.p l.log c.fly-log.result ts (t ∷ []) l.invariant.1 f.log),
       f.page
-          ∙ ap (λ (x : List ℕ). x ++ lines a.a l.log (t ∷ [])) l.invariant.1
+          ∙ ap (λ (x : List ℕ). x ++ lines a.a l.log (t ∷ [])) l.invariant.2
           ∙ append_assoc a.page.now (lines a.a a.p ts) (lines a.a l.log (t ∷ []))
           ∙ ap (λ (x : List ℕ). a.page.now ++ x)
-          (sym (laws.more_lines a.a a.p l.log ts (t ∷ []) l.invariant.0) ∙ ap (lines a.a a.p) whole),
-      omega (arith, f.within, l.invariant.2),
+          (sym (laws.more_lines a.a a.p l.log ts (t ∷ []) l.invariant.1) ∙ ap (lines a.a a.p) whole),
+      omega (arith, f.within, l.invariant.3),
     )
 
 pub returns : goal.returns
@@ -55,9 +56,9 @@ returns g c =
     let l = c.loop-i in
     let a = c.args in
     let s : List ℕ = a.trace.now in
-    let all : l.i ≡ tick_count s = omega (arith, c.tick_count-i-end.ensures, l.auto.i-end, c.loop-i-test.false) in
+    let all : l.i ≡ tick_count s = omega (arith, l.invariant.0, l.auto.i-end, c.loop-i-test.false) in
     record {
-      log = subst (λ (n : ℕ). g.L.Log.leads a.a a.p (ticks_from s 0 n) l.log) all l.invariant.0;
-      page = l.invariant.1 ∙ ap (λ (n : ℕ). a.page.now ++ g.L.Log.lines a.a a.p (ticks_from s 0 n)) all;
-      within = subst (λ (n : ℕ). length l.page ≤ length a.page.now + g.L.Log.room * n) all l.invariant.2;
+      log = subst (λ (n : ℕ). g.L.Log.leads a.a a.p (ticks_from s 0 n) l.log) all l.invariant.1;
+      page = l.invariant.2 ∙ ap (λ (n : ℕ). a.page.now ++ g.L.Log.lines a.a a.p (ticks_from s 0 n)) all;
+      within = subst (λ (n : ℕ). length l.page ≤ length a.page.now + g.L.Log.room * n) all l.invariant.3;
     }
