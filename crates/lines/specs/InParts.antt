@@ -35,9 +35,9 @@ in-parts a p q ts us h =
     let l : TickLog = log_of a (log_from p.flight p.index) ts in
     foldl-append (log_on a) (log_from p.flight p.index) ts us
     ∙ ap (λ (m : TickLog). foldl (log_on a) m us) (
-      ap (λ (f : Flight). record { flight = f; index = l.index; text = l.text }) (sym h.flight)
-      ∙ ap (λ (i : ℕ). record { flight = q.flight; index = i; text = l.text }) (sym h.index)
-      ∙ ap (λ (x : List ℕ). record { flight = q.flight; index = q.index; text = x }) (sym (append-nil l.text))
+    ap (λ (f : Flight). record { flight = f; index = l.index; text = l.text }) (sym h.flight)
+    ∙ ap (λ (i : ℕ). record { flight = q.flight; index = i; text = l.text }) (sym h.index)
+    ∙ ap (λ (x : List ℕ). record { flight = q.flight; index = q.index; text = x }) (sym (append-nil l.text))
     )
     ∙ onward a l.text (log_from q.flight q.index) us
 
@@ -90,8 +90,8 @@ shown-in-parts a p q ts us h =
     let l : Shown = shown_over a (tracks_of p) ts in
     foldl-append (shown_on a) (record { tracks = tracks_of p; text = [] }) ts us
     ∙ ap (λ (m : Shown). foldl (shown_on a) m us) (
-      ap (λ (r : Tracks). record { tracks = r; text = l.text }) (sym h)
-      ∙ ap (λ (x : List ℕ). record { tracks = tracks_of q; text = x }) (sym (append-nil l.text))
+    ap (λ (r : Tracks). record { tracks = r; text = l.text }) (sym h)
+    ∙ ap (λ (x : List ℕ). record { tracks = tracks_of q; text = x }) (sym (append-nil l.text))
     )
     ∙ shown-onward a l.text (record { tracks = tracks_of q; text = [] }) us
 

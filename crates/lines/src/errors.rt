@@ -55,6 +55,12 @@ pub fn report(rt: &HostRuntime, program: &[u8], name: &[u8], trouble: Trouble) {
     match trouble {
         Trouble::Unopened(error) => because(rt, program, b": cannot open ", name, error),
         Trouble::Unread(error) => because(rt, program, b": cannot read ", name, error),
-        Trouble::Unwritten(error) => because(rt, program, b": cannot write ", b"standard output", error),
+        Trouble::Unwritten(error) => because(
+            rt,
+            program,
+            b": cannot write ",
+            b"standard output",
+            error,
+        ),
     }
 }

@@ -24,7 +24,11 @@ pub struct Opened {
 fn accepted<T: Copy>(answer: Answer, value: T) -> Result<T, Answer>
     ensures { result ≡ accepted answer value }
 {
-    if answer.is_done() { Ok(value) } else { Err(answer) }
+    if answer.is_done() {
+        Ok(value)
+    } else {
+        Err(answer)
+    }
 }
 
 // How many bytes of an airframe block are read, by its first two: of a refused header no more than these.

@@ -28,7 +28,9 @@ fn fly_page<L: Log>(a: Airframe, p: L, trace: &[u8], page: &mut Page) -> L
 
 // Writes the page, which may be made of what was read before a read failed.
 fn print<R>(rt: &HostRuntime, input: &Input<R>, page: &Page) -> Result<(), Trouble> {
-    rt.stdout().write_all(page.text()).map_err(Trouble::Unwritten)?;
+    rt.stdout()
+        .write_all(page.text())
+        .map_err(Trouble::Unwritten)?;
     match input.error {
         Some(error) => Err(Trouble::Unread(error)),
         None => Ok(()),
@@ -36,7 +38,12 @@ fn print<R>(rt: &HostRuntime, input: &Input<R>, page: &Page) -> Result<(), Troub
 }
 
 // Flies all ticks of the input from f, where airframe and state are accepted.
-fn fly_input<L: Log, R: Read>(rt: &HostRuntime, a: Airframe, f: Flight, input: &mut Input<R>) -> Result<(), Trouble>
+fn fly_input<L: Log, R: Read>(
+    rt: &HostRuntime,
+    a: Airframe,
+    f: Flight,
+    input: &mut Input<R>,
+) -> Result<(), Trouble>
     requires { Ready a f }
 {
     let mut buf = [0; TICKS_BYTES];

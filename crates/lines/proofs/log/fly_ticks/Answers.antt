@@ -1,5 +1,5 @@
 -- `lines::log::fly_ticks` meets its contract. Assumes nothing.
-use Rattle.std.proofs.Common.{◌≡◌, ℕ, zero, suc, ◌+◌, ◌*◌, ◌≤◌, List, [], ◌∷◌, ◌++◌, length, sym, refl, ap, ◌∙◌, subst, add-one, append_assoc, append-nil, le_antisymm, arith, rules}
+use Rattle.std.proofs.Common.{◌≡◌, ℕ, zero, suc, ◌+◌, ◌*◌, ◌≤◌, List, [], ◌∷◌, ◌++◌, length, sym, ap, ◌∙◌, subst, add-one, append_assoc, append-nil, arith, rules}
 use Rattle.std.proofs.lemmas.Nat.{mul-le}
 use Rattle.flight.specs.declared.Tick.{Tick}
 use Rattle.trace.specs.Trace.{tick_at, tick_count, ticks_from, ticks_of}
