@@ -9,3 +9,4 @@ pub mod Compare
 pub mod Tracks
 pub mod InParts
 pub mod Verdict
+pub mod Summary

@@ -2,6 +2,7 @@
 ghost use Rattle.std.specs.Prelude.{◌≡◌};
 ghost use Rattle.lines.specs.TickLog.{LeadsAlone, StartsAlone, lines_alone};
 ghost use Rattle.std.proofs.Common.{arith};
+ghost use Rattle.lines.specs.Text.{end_text};
 ghost use Rattle.lines.specs.Page.{line_bytes};
 ghost use Rattle.lines.specs.InParts as InParts;
 
@@ -23,6 +24,8 @@ impl Log for Flown {
     ghost leads = { LeadsAlone };
 
     ghost lines = { lines_alone };
+
+    ghost ends = { λ _ n. end_text n };
 
     ghost room = { line_bytes };
 

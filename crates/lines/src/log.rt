@@ -21,6 +21,9 @@ pub trait Log: Copy + Drop {
     // The lines of some ticks, after those that the log has.
     ghost lines: { Airframe → Self → List Tick → List ℕ };
 
+    // What follows the lines of the last n bytes read.
+    ghost ends: { Self → ℕ → List ℕ };
+
     // How many bytes the lines of a tick have at most.
     ghost room: { ℕ };
 
@@ -37,7 +40,8 @@ pub trait Log: Copy + Drop {
 
     // Puts what follows the lines of the last n bytes read.
     fn put_end(self, n: usize, page: &mut Page)
-        requires { length page.old ≤ 200 * (2 * line_bytes) };
+        requires { length page.old ≤ 200 * (2 * line_bytes) }
+        ensures { page.new ≡ page.old ++ ends self n };
 
     // No tick changes nothing, and has no line.
     ghost none: { (a : Airframe) (p : Self) → leads a p [] p };

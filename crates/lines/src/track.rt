@@ -1,5 +1,6 @@
 // A flight and its reflection, tick by tick.
 ghost use Rattle.std.specs.Prelude.{◌≡◌, ◌+◌, ◌*◌, ◌≤◌, ◌++◌, length};
+ghost use Rattle.lines.specs.Summary.{end_beside};
 ghost use Rattle.lines.specs.Tracks as Tracks;
 ghost use Rattle.std.proofs.Common.{arith};
 ghost use Rattle.lines.specs.Page.{line_bytes, page_bytes};
@@ -94,6 +95,8 @@ impl Log for Track {
     ghost leads = { Tracks.LeadsBeside };
 
     ghost lines = { Tracks.lines_beside };
+
+    ghost ends = { end_beside };
 
     ghost room = { 2 * line_bytes };
 
