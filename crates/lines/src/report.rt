@@ -45,7 +45,9 @@ impl Page {
         match v {
             Verdict::NoneAccepted => self.put_text(b"no tick was accepted: nothing to compare"),
             Verdict::Mirror => self.put_text(b"this flight and its own reflection mirror"),
-            Verdict::MirrorSoFar => self.put_text(b"the whole ticks of this flight and its own reflection mirror"),
+            Verdict::MirrorSoFar => self.put_text(
+                b"the whole ticks of this flight and its own reflection mirror",
+            ),
             Verdict::DifferFrom(tick) => {
                 self.put_text(b"this flight and its own reflection do not mirror from tick ");
                 self.put_count(tick, b" on");
