@@ -1,5 +1,6 @@
 -- Digits may be written from the last to the first. Assumes nothing.
-use Rattle.std.proofs.Common.{◌≡◌, ℕ, zero, suc, ◌+◌, ◌/◌, ◌%◌, ◌<◌, Bool, true, false, cond, ltb, List, [], ◌∷◌, ◌++◌, length, sym, refl, ap, ◌∙◌, set, drop, add-one, append_assoc, length-append}
+use Rattle.std.proofs.Common.{◌≡◌, ℕ, zero, suc, ◌+◌, ◌/◌, ◌%◌, ◌<◌, Bool, true, false, cond, ltb, List, [], ◌∷◌, ◌++◌, length, sym, refl, ap, ◌∙◌, set, drop, add-one}
+use Rattle.std.proofs.Common.{append_assoc, length-append}
 use Rattle.std.proofs.lemmas.List.{drop-set}
 use Rattle.lines.specs.Glyph.{glyph_of}
 use Rattle.lines.specs.Text.{byte_text, digit_count, digits_of}
@@ -27,5 +28,8 @@ pub digit-written :
     (b j n : ℕ) (room : List ℕ)
     → j < length room → digits_of b (suc j) n ++ drop (suc j) room ≡ digits_of b j (n / b) ++ drop j (set room j (glyph_of (n % b)))
 unfolding digits_of
-digit-written b j n room h = append_assoc (digits_of b j (n / b)) (glyph_of (n % b) ∷ []) (drop (suc j) room)
-    ∙ sym (ap (λ (x : List ℕ). digits_of b j (n / b) ++ x) (drop-set room j (glyph_of (n % b)) h ∙ ap (λ (k : ℕ). glyph_of (n % b) ∷ drop k room) (add-one j)))
+digit-written b j n room h =
+    let g : ℕ = glyph_of (n % b) in
+    let left : List ℕ = digits_of b j (n / b) in
+    append_assoc left (g ∷ []) (drop (suc j) room)
+    ∙ sym (ap (λ (x : List ℕ). left ++ x) (drop-set room j g h ∙ ap (λ (k : ℕ). g ∷ drop k room) (add-one j)))

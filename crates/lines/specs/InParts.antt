@@ -30,7 +30,7 @@ in-parts :
     (a : Airframe) (p q : Flown) (ts us : List Tick)
     → LeadsAlone a p ts q
     → log_of a (log_from p.flight p.index) (ts ++ us) ≡ behind (lines_alone a p ts) (log_of a (log_from q.flight q.index) us)
-unfolding log_of log_from behind
+unfolding log_of behind
 in-parts a p q ts us h =
     let l : TickLog = log_of a (log_from p.flight p.index) ts in
     foldl-append (log_on a) (log_from p.flight p.index) ts us
@@ -42,11 +42,11 @@ in-parts a p q ts us h =
     ∙ onward a l.text (log_from q.flight q.index) us
 
 pub none-alone : (a : Airframe) (p : Flown) → LeadsAlone a p [] p
-unfolding log_of log_from
+unfolding log_of
 none-alone a p = record { flight = refl; index = refl }
 
 pub no_lines-alone : (a : Airframe) (p : Flown) → lines_alone a p [] ≡ []
-unfolding log_of log_from
+unfolding log_of
 no_lines-alone a p = refl
 
 pub more-alone : (a : Airframe) (p q r : Flown) (ts us : List Tick) → LeadsAlone a p ts q → LeadsAlone a q us r → LeadsAlone a p (ts ++ us) r
@@ -63,17 +63,17 @@ more_lines-alone a p q ts us h = ap (λ (l : TickLog). l.text) (in-parts a p q t
 -- ---- a flight and its reflection
 
 pub none-beside : (a : Airframe) (p : Track) → LeadsBeside a p [] p
-unfolding shown_over
 none-beside a p = refl
 
 pub no_lines-beside : (a : Airframe) (p : Track) → lines_beside a p [] ≡ []
-unfolding shown_over
 no_lines-beside a p = refl
 
 shown_behind : List ℕ → Shown → Shown
 shown_behind s l = record { tracks = l.tracks; text = s ++ l.text }
 
-shown-onward : (a : Airframe) (s : List ℕ) (l : Shown) (ts : List Tick) → foldl (shown_on a) (shown_behind s l) ts ≡ shown_behind s (foldl (shown_on a) l ts)
+shown-onward :
+    (a : Airframe) (s : List ℕ) (l : Shown) (ts : List Tick)
+    → foldl (shown_on a) (shown_behind s l) ts ≡ shown_behind s (foldl (shown_on a) l ts)
 unfolding shown_behind shown_on
 shown-onward a s l [] = refl
 shown-onward a s l (t ∷ ts) =
@@ -85,7 +85,7 @@ shown-in-parts :
     (a : Airframe) (p q : Track) (ts us : List Tick)
     → LeadsBeside a p ts q
     → shown_over a (tracks_of p) (ts ++ us) ≡ shown_behind (lines_beside a p ts) (shown_over a (tracks_of q) us)
-unfolding shown_over shown_behind
+unfolding shown_behind
 shown-in-parts a p q ts us h =
     let l : Shown = shown_over a (tracks_of p) ts in
     foldl-append (shown_on a) (record { tracks = tracks_of p; text = [] }) ts us

@@ -16,11 +16,11 @@ pub record TickLog : Type 0 where
   pub text : List ℕ
 
 -- before the first of them
-unfoldable pub log_from : Flight → ℕ → TickLog
+abbrev pub log_from : Flight → ℕ → TickLog
 log_from f index = record { flight = f; index = index; text = [] }
 
 -- counts are in 64 bits
-unfoldable pub one_more : ℕ → ℕ
+abbrev pub one_more : ℕ → ℕ
 one_more n = (n + 1) % 2 ^ 64
 
 -- the line of a tick, by what it answers and hands back

@@ -91,7 +91,7 @@ unfoldable pub shown_on : Airframe → Shown → Tick → Shown
 shown_on a p t = record { tracks = tracks_on a p.tracks t; text = p.text ++ text_on a p.tracks t }
 
 -- some ticks, from the tracks p on
-unfoldable pub shown_over : Airframe → Tracks → List Tick → Shown
+abbrev pub shown_over : Airframe → Tracks → List Tick → Shown
 shown_over a p ts = foldl (shown_on a) (record { tracks = p; text = [] }) ts
 
 -- the ticks of a trace, after those that p has flown: the tracks, and the text of their lines

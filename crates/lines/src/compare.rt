@@ -8,6 +8,7 @@ use flight::Flight;
 use vector::{Quaternion, Vec3};
 use wing::{Report, TickResult};
 
+#[tactic(auto, unfolding(crate::specs::Compare::same_number))]
 fn same(x: f32, y: f32) -> bool
     ensures { result ≡ Compare.same_number x y }
 {
@@ -17,6 +18,7 @@ fn same(x: f32, y: f32) -> bool
     x == y
 }
 
+#[tactic(auto, unfolding(crate::specs::Compare::same_vec))]
 fn same_vec(v: Vec3, w: Vec3) -> bool
     ensures { result ≡ Compare.same_vec v w }
 {
@@ -26,6 +28,7 @@ fn same_vec(v: Vec3, w: Vec3) -> bool
     ordered::both(ordered::both(x, y), z)
 }
 
+#[tactic(auto, unfolding(crate::specs::Compare::same_attitude))]
 fn same_attitude(p: Quaternion, q: Quaternion) -> bool
     ensures { result ≡ Compare.same_attitude p q }
 {
@@ -46,6 +49,7 @@ fn same_slots(xs: [f32; 8], ys: [f32; 8]) -> bool
     ok
 }
 
+#[tactic(auto, unfolding(crate::specs::Compare::same_body))]
 fn same_body(b: Body, c: Body) -> bool
     ensures { result ≡ Compare.same_body b c }
 {
@@ -59,21 +63,14 @@ fn same_body(b: Body, c: Body) -> bool
     )
 }
 
+#[tactic(auto, unfolding(crate::specs::Compare::same_flight))]
 fn same_flight(f: Flight, g: Flight) -> bool
     ensures { result ≡ Compare.same_flight f g }
 {
-    let running = f.motors;
-    let running_too = g.motors;
-    let positions = f.servos;
-    let positions_too = g.servos;
-    let strengths = f.thrust_scale;
-    let strengths_too = g.thrust_scale;
-    let lift_running = f.lift_motors;
-    let lift_running_too = g.lift_motors;
-    let motors = same_slots(running, running_too);
-    let servos = same_slots(positions, positions_too);
-    let scales = same_slots(strengths, strengths_too);
-    let lift = same_slots(lift_running, lift_running_too);
+    let motors = same_slots(f.motors, g.motors);
+    let servos = same_slots(f.servos, g.servos);
+    let scales = same_slots(f.thrust_scale, g.thrust_scale);
+    let lift = same_slots(f.lift_motors, g.lift_motors);
     ordered::both(
         same_body(f.body(), g.body()),
         ordered::both(ordered::both(motors, servos), ordered::both(scales, lift)),
@@ -81,12 +78,11 @@ fn same_flight(f: Flight, g: Flight) -> bool
 }
 
 // The same answer, alpha and thrust; beta negated.
+#[tactic(auto, unfolding(crate::specs::Compare::mirrored_report))]
 fn mirrored_report(x: Report, y: Report) -> bool
     ensures { result ≡ Compare.mirrored_report x y }
 {
-    let ours = x.answer;
-    let theirs = y.answer;
-    let answer = ours.number() == theirs.number();
+    let answer = x.answer.number() == y.answer.number();
     let alpha = same(x.alpha_rad, y.alpha_rad);
     let thrust = same(x.thrust_n, y.thrust_n);
     let beta = same(-x.beta_rad, y.beta_rad);
@@ -94,10 +90,10 @@ fn mirrored_report(x: Report, y: Report) -> bool
 }
 
 // Whether y is what the tick of x gives in the reflection.
+#[tactic(auto, unfolding(crate::specs::Compare::mirrored_tick))]
 pub fn is_mirrored(x: TickResult, y: TickResult) -> bool
     ensures { result ≡ Compare.mirrored_tick x y }
 {
-    let f = x.flight;
     let report = mirrored_report(x.report, y.report);
-    ordered::both(report, same_flight(f.reflected(), y.flight))
+    ordered::both(report, same_flight(x.flight.reflected(), y.flight))
 }

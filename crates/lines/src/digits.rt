@@ -20,6 +20,7 @@ fn shown(x: f32) -> u32
 }
 
 // The digit d of a base up to 16, upper case.
+#[tactic(auto, unfolding(crate::specs::Glyph::glyph_of))]
 fn glyph(d: u64) -> u8
     requires { d < 16 }
     ensures { result ≡ glyph_of d }

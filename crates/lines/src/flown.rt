@@ -36,14 +36,15 @@ impl Log for Flown {
         }
     }
 
-    #[tactic(auto, unfolding(crate::specs::TickLog::log_of, crate::specs::TickLog::log_from, crate::specs::TickLog::log_on, crate::specs::TickLog::tick_text, crate::specs::TickLog::one_more))]
+    #[tactic(auto, unfolding(crate::specs::TickLog::log_of, crate::specs::TickLog::log_on, crate::specs::TickLog::tick_text))]
     fn fly(self, a: Airframe, t: Tick, page: &mut Page) -> Flown {
         let done = wing::tick(a, self.flight, t);
-        let report = done.report;
-        let flight = done.flight;
-        let index = std::num::wrapping_add_u64(self.index, 1);
-        page.put_line(index, report.answer, flight);
-        Flown { flight, index }
+        let index = self.index.wrapping_add(1);
+        page.put_line(index, done.report.answer, done.flight);
+        Flown {
+            flight: done.flight,
+            index,
+        }
     }
 
     fn put_end(self, n: usize, page: &mut Page) {

@@ -18,6 +18,7 @@ pub enum Asked {
 }
 
 // By how many words the program was called with, its own name among them, and whether standard input is a terminal.
+#[tactic(auto, unfolding(crate::specs::Asked::asked_by))]
 pub fn asked_for(words: usize, terminal: bool) -> Asked
     ensures { result ≡ asked_by words terminal }
 {
@@ -75,31 +76,35 @@ pub struct Input<R> {
     pub error: Option<io::Error>,
 }
 
-// Nothing is read yet.
-pub fn of<R>(reader: R) -> Input<R>
-    ensures reader { result.reader ≡ reader }
-    ensures error { result.error ≡ None }
-{
-    Input {
-        reader,
-        error: None,
+impl<R> Input<R> {
+    // Nothing is read yet.
+    pub fn new(reader: R) -> Input<R>
+        ensures reader { result.reader ≡ reader }
+        ensures error { result.error ≡ None }
+    {
+        Input {
+            reader,
+            error: None,
+        }
     }
 }
 
-// Reads on into s until it is full, the input ends or a read fails, and answers how many bytes came.
-pub fn fill<R: Read>(input: &mut Input<R>, s: &mut [u8]) -> usize
-    ensures { result ≤ length s.old }
-{
-    let mut end = 0;
-    while end < s.len() {
-        match input.reader.read(&mut s[end..]) {
-            Ok(0) => break,
-            Ok(more) => end += more,
-            Err(error) => {
-                input.error = Some(error);
-                break;
+impl<R: Read> Input<R> {
+    // Reads on into s until it is full, the input ends or a read fails, and answers how many bytes came.
+    pub fn fill(&mut self, s: &mut [u8]) -> usize
+        ensures { result ≤ length s.old }
+    {
+        let mut end = 0;
+        while end < s.len() {
+            match self.reader.read(&mut s[end..]) {
+                Ok(0) => break,
+                Ok(more) => end += more,
+                Err(error) => {
+                    self.error = Some(error);
+                    break;
+                }
             }
         }
+        end
     }
-    end
 }

@@ -4,7 +4,6 @@ ghost use Rattle.airframe_block.specs.Block.{announced_of, header_bytes, most_by
 ghost use Rattle.trace.specs.Tick.{tick_bytes};
 ghost use Rattle.lines.specs.Opening.{FromBlock, FromBlocks, FromState, accepted, wanted_by};
 
-use crate::input;
 use crate::input::Input;
 use airframe::Airframe;
 use airframe_block::{Announced, HEADER_BYTES, MOST_BYTES};
@@ -49,10 +48,10 @@ fn open_airframe<R: Read>(input: &mut Input<R>) -> Result<Airframe, Answer>
     ensures { FromBlock result }
 {
     let mut s = [0; MOST_BYTES];
-    let mut n = input::fill(input, &mut s[..HEADER_BYTES]);
+    let mut n = input.fill(&mut s[..HEADER_BYTES]);
     if n == HEADER_BYTES {
         let wanted = airframe_wanted(s[0], s[1]);
-        n += input::fill(input, &mut s[HEADER_BYTES..wanted]);
+        n += input.fill(&mut s[HEADER_BYTES..wanted]);
     }
     let read = airframe_block::read_airframe(&s[..n]);
     accepted(read.answer, read.airframe)
@@ -63,7 +62,7 @@ fn open_state<R: Read>(input: &mut Input<R>) -> Result<Flight, Answer>
     ensures { FromState result }
 {
     let mut s = [0; state_block::STATE_BYTES];
-    let n = input::fill(input, &mut s);
+    let n = input.fill(&mut s);
     let read = state_block::read_full_state(&s[..n]);
     accepted(read.answer, read.flight)
 }
@@ -84,6 +83,6 @@ pub const TICKS_BYTES: usize = 200 * trace::TICK_BYTES;
 pub fn read_ticks<'a, R: Read>(input: &mut Input<R>, buf: &'a mut [u8; TICKS_BYTES]) -> &'a [u8]
     ensures { length result.now ≤ 200 * tick_bytes }
 {
-    let n = input::fill(input, buf);
+    let n = input.fill(buf);
     &buf[..n]
 }

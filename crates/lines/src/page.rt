@@ -19,12 +19,13 @@ pub struct Page {
 
 impl Model for Page {
     ghost use Rattle.std.specs.Prelude.{ℕ, ◌≤◌, List, take};
+    ghost use Rattle.lines.specs.Page.{page_bytes};
 
     ghost Value = { List ℕ };
 
     ghost view = { λ p. take p.len p.bytes };
 
-    ghost invariant = { λ p. p.len ≤ 65536 };
+    ghost invariant = { λ p. p.len ≤ page_bytes };
 }
 
 impl Page {

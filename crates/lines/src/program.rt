@@ -76,21 +76,14 @@ fn fly<L: Log, R: Read>(rt: &HostRuntime, input: &mut Input<R>) -> Result<(), Tr
 // Flies the file of that name.
 fn fly_named<L: Log>(rt: &HostRuntime, name: &[u8]) -> Result<(), Trouble> {
     let file = input::open_named(rt, name).map_err(Trouble::Unopened)?;
-    let mut input = input::of(file);
+    let mut input = Input::new(file);
     fly::<L, _>(rt, &mut input)
 }
 
 // Flies standard input.
 fn fly_standard_input<L: Log>(rt: &HostRuntime) -> Result<(), Trouble> {
-    let mut input = input::of(rt.stdin());
+    let mut input = Input::new(rt.stdin());
     fly::<L, _>(rt, &mut input)
-}
-
-// Says on standard error what a program could not do with the input of that name.
-fn say(rt: &HostRuntime, program: &[u8], name: &[u8], done: Result<(), Trouble>) {
-    if let Err(trouble) = done {
-        errors::report(rt, program, name, trouble);
-    }
 }
 
 // Flies the file or standard input that the program is asked to read, where its airframe and its state are accepted. What it cannot
@@ -101,9 +94,15 @@ pub fn fly_file<L: Log>(rt: &HostRuntime, program: &[u8]) {
         Asked::File => {
             let mut buf = [0; PAGE_BYTES];
             let name = input::first_argument(rt, &mut buf);
-            say(rt, program, name, fly_named::<L>(rt, name));
+            if let Err(trouble) = fly_named::<L>(rt, name) {
+                errors::report(rt, program, name, trouble);
+            }
         }
-        Asked::StandardInput => say(rt, program, b"standard input", fly_standard_input::<L>(rt)),
+        Asked::StandardInput => {
+            if let Err(trouble) = fly_standard_input::<L>(rt) {
+                errors::report(rt, program, b"standard input", trouble);
+            }
+        }
         Asked::Nothing => errors::usage(rt, program),
     }
 }

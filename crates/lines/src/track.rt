@@ -28,11 +28,12 @@ pub struct Track {
 }
 
 // One more where the answer is 0.
+#[tactic(auto, unfolding(crate::specs::Tracks::count_of))]
 fn counted(count: u64, answer: Answer) -> u64
     ensures { result ≡ Tracks.count_of count answer }
 {
     if answer.is_done() {
-        return std::num::wrapping_add_u64(count, 1);
+        return count.wrapping_add(1);
     }
     count
 }
@@ -62,28 +63,24 @@ impl Page {
         ensures page { self.new ≡ self.old ++ Tracks.pair_text index x y }
         ensures within { length self.new ≤ length self.old + 2 * line_bytes }
     {
-        let ours = x.report;
-        let theirs = y.report;
-        self.put_line(index, ours.answer, x.flight);
-        self.put_mirrored_line(index, theirs.answer, y.flight);
+        self.put_line(index, x.report.answer, x.flight);
+        self.put_mirrored_line(index, y.report.answer, y.flight);
     }
 }
 
 impl Track {
     // After a tick that gave x, and y in the reflection.
-    #[tactic(auto, unfolding(crate::specs::Tracks::tracks_after, crate::specs::TickLog::one_more))]
+    #[tactic(auto, unfolding(crate::specs::Tracks::tracks_after))]
     fn after(self, x: TickResult, y: TickResult) -> Track
         ensures { Tracks.tracks_of result ≡ Tracks.tracks_after (Tracks.tracks_of self) x y }
     {
-        let ticks = std::num::wrapping_add_u64(self.ticks, 1);
-        let ours = x.report;
-        let theirs = y.report;
+        let ticks = self.ticks.wrapping_add(1);
         Track {
             first: x.flight,
             second: y.flight,
             ticks,
-            accepted: counted(self.accepted, ours.answer),
-            accepted_mirrored: counted(self.accepted_mirrored, theirs.answer),
+            accepted: counted(self.accepted, x.report.answer),
+            accepted_mirrored: counted(self.accepted_mirrored, y.report.answer),
             differs: first_unlike(self.differs, ticks, x, y),
         }
     }
@@ -112,11 +109,11 @@ impl Log for Track {
         }
     }
 
-    #[tactic(auto, unfolding(crate::specs::Tracks::shown_over, crate::specs::Tracks::shown_on, crate::specs::Tracks::tracks_on, crate::specs::Tracks::text_on, crate::specs::TickLog::one_more))]
+    #[tactic(auto, unfolding(crate::specs::Tracks::shown_on, crate::specs::Tracks::tracks_on, crate::specs::Tracks::text_on))]
     fn fly(self, a: Airframe, t: Tick, page: &mut Page) -> Track {
         let x = lent_tick::tick_by_reference(a, self.first, t);
         let y = lent_tick::tick_by_reference(a.reflected(), self.second, t.reflected());
-        page.put_both(std::num::wrapping_add_u64(self.ticks, 1), x, y);
+        page.put_both(self.ticks.wrapping_add(1), x, y);
         self.after(x, y)
     }
 

@@ -1,13 +1,8 @@
 -- `lines::opening::open` meets its contract: it goes on behind an accepted airframe, and ends with a refused one. Assumes nothing.
 use Rattle.std.proofs.Common.{Ok, Err}
 use Rattle.std.proofs.lemmas.Result.{err_from_is_err_and}
-use Rattle.lines.proofs.Openings.{ends, goes_on}
+use Rattle.lines.proofs.Openings.{goes_on}
 use Rattle.lines.proofs.opening.open.Goals as goal
-
-pub returns-in_err-airframe : goal.returns-in_err-airframe
-returns-in_err-airframe g c =
-    let p = err_from_is_err_and c.from_residual.result c.from_residual.ensures.1 in
-    rw (p.1, p.2) (ends c.in_err-airframe.field-0.0 c.in_err-airframe.ensures)
 
 pub returns-in_err-flight : goal.returns-in_err-flight
 returns-in_err-flight g c =

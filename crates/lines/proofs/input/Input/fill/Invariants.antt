@@ -1,6 +1,6 @@
 -- The bytes so far are in the buffer.
 use Rattle.std.proofs.Common.{◌-◌, ◌≤◌, length}
-use Rattle.lines.proofs.input.fill.Given as goal
+use Rattle.lines.proofs.input.Input.fill.Given as goal
 
 abbrev pub invariant-loop-end : goal.invariant-loop-end
 invariant-loop-end g l = l.end ≤ length l.s
