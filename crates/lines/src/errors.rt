@@ -40,27 +40,19 @@ fn say_reason(rt: &HostRuntime, error: io::Error) {
     }
 }
 
-// What the program cannot do with the file of that name, and the system's reason.
-fn because(rt: &HostRuntime, program: &[u8], what: &[u8], name: &[u8], error: io::Error) {
+// What keeps the program from going on with the input of that name, and the system's reason.
+pub fn report(rt: &HostRuntime, program: &[u8], name: &[u8], trouble: Trouble) {
+    let (doing, name, error) = match trouble {
+        Trouble::Unopened(error) => ("open", name, error),
+        Trouble::Unread(error) => ("read", name, error),
+        Trouble::Unwritten(error) => ("write", "standard output".as_bytes(), error),
+    };
     say(rt, program);
-    say(rt, what);
+    say(rt, b": cannot ");
+    say(rt, doing.as_bytes());
+    say(rt, b" ");
     say(rt, name);
     say(rt, b": ");
     say_reason(rt, error);
     say(rt, b"\n");
-}
-
-// What keeps the program from going on with the input of that name.
-pub fn report(rt: &HostRuntime, program: &[u8], name: &[u8], trouble: Trouble) {
-    match trouble {
-        Trouble::Unopened(error) => because(rt, program, b": cannot open ", name, error),
-        Trouble::Unread(error) => because(rt, program, b": cannot read ", name, error),
-        Trouble::Unwritten(error) => because(
-            rt,
-            program,
-            b": cannot write ",
-            b"standard output",
-            error,
-        ),
-    }
 }

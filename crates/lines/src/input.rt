@@ -37,10 +37,7 @@ pub fn asked_for(words: usize, terminal: bool) -> Asked
 // Whether the program was called with a word i, its own name being word 0.
 fn has_word(rt: &HostRuntime, i: usize) -> bool {
     let mut start = [0u8; 1];
-    match rt.arg(i, &mut start) {
-        Err(FillError::NotPresent) => false,
-        _ => true,
-    }
+    !matches!(rt.arg(i, &mut start), Err(FillError::NotPresent))
 }
 
 // How many words the program was called with: 3 stands for more, too.
