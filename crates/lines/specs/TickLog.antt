@@ -4,7 +4,6 @@ use mathlib.Core.List.{foldl}
 use Rattle.airframe.specs.declared.Airframe.{Airframe}
 use Rattle.flight.specs.declared.Flight.{Flight}
 use Rattle.flight.specs.declared.Tick.{Tick}
-use Rattle.trace.specs.Trace.{ticks_of}
 use Rattle.wing.specs.Tick.{tick_of}
 use Rattle.lines.specs.Text.{line_text}
 use Rattle.lines.specs.declared.flown.Flown.{Flown}
@@ -38,10 +37,6 @@ log_on a p t = record {
 -- some ticks, one after the other
 unfoldable pub log_of : Airframe → TickLog → List Tick → TickLog
 log_of a p ts = foldl (log_on a) p ts
-
--- the ticks of a trace, after those that p has flown
-abbrev pub log_over : Airframe → Flown → List ℕ → TickLog
-log_over a p s = log_of a (log_from p.flight p.index) (ticks_of s)
 
 -- ---- what a program keeps of a flight alone
 

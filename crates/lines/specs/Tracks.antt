@@ -12,7 +12,6 @@ use Rattle.flight.specs.declared.Flight.{Flight}
 use Rattle.flight.specs.declared.Tick.{Tick}
 use Rattle.lines.specs.TickLog.{one_more}
 use Rattle.lines.specs.Text.{line_text, mirrored_text}
-use Rattle.trace.specs.Trace.{ticks_of}
 use Rattle.wing.specs.Tick.{tick_of}
 use Rattle.wing.specs.declared.TickResult.{TickResult}
 use Rattle.lines.specs.Compare.{mirrored_tick}
@@ -79,7 +78,7 @@ pair_text index x y = line_text index x.report.answer x.flight ++ mirrored_text 
 unfoldable pub text_on : Airframe → Tracks → Tick → List ℕ
 text_on a p t = pair_text (one_more p.ticks) (tick_of a p.first t) (tick_of (reflect_airframe a) p.second (reflect_tick t))
 
--- ---- the ticks of a trace, one after the other
+-- ---- ticks, one after the other
 
 -- the tracks after some ticks, and the text of their lines
 pub record Shown : Type 0 where
@@ -93,13 +92,6 @@ shown_on a p t = record { tracks = tracks_on a p.tracks t; text = p.text ++ text
 -- some ticks, from the tracks p on
 abbrev pub shown_over : Airframe → Tracks → List Tick → Shown
 shown_over a p ts = foldl (shown_on a) (record { tracks = p; text = [] }) ts
-
--- the ticks of a trace, after those that p has flown: the tracks, and the text of their lines
-abbrev pub tracks_flown : Airframe → Track → List ℕ → Tracks
-tracks_flown a p s = (shown_over a (tracks_of p) (ticks_of s)).tracks
-
-abbrev pub text_flown : Airframe → Track → List ℕ → List ℕ
-text_flown a p s = (shown_over a (tracks_of p) (ticks_of s)).text
 
 -- ---- what a program keeps of a flight and its reflection
 
