@@ -3,5 +3,5 @@
 #![tactic(auto)]
 
 fn main(rt: HostRuntime) {
-    lines::fly_file(&rt, b"fly", false);
+    lines::fly_file::<lines::Flown>(&rt, b"fly");
 }

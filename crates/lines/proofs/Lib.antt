@@ -1,5 +1,4 @@
 -- Laws of texts on a page, and of what stands before the ticks.
-pub mod TickLogs
 pub mod Openings
 pub mod Texts
 pub mod Numbers

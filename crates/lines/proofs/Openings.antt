@@ -1,65 +1,53 @@
--- What the start of an input gives is what some bytes give, and where the reply is 0 it may be flown. Assumes nothing.
-use Rattle.std.proofs.Common.{◌≡◌, ℕ, Bool, true, false, cond, eqb, List, [], sym, refl, ap, ◌∙◌, subst, eq-eqb, ne_eqb, eqb-true}
-use borrow.Author.Tests.{eqb-false}
+-- What the start of an input gives is what some bytes give, and where it is accepted it may be flown. Assumes nothing.
+use Rattle.std.proofs.Common.{◌≡◌, ℕ, List, [], sym, refl, ap, ◌∙◌, subst, Result, Ok, Err}
 use Rattle.airframe.specs.declared.Airframe.{Airframe}
 use Rattle.airframe_block.proofs.Reading.{accepted-is-accepted}
 use Rattle.airframe_block.specs.Block.{read_airframe_of}
-use Rattle.airframe_block.specs.declared.AirframeRead.{AirframeRead}
-use Rattle.answers.proofs.Numbers.{number-done}
-use Rattle.answers.specs.Answers.{number_of}
+use Rattle.answers.specs.Answers.{Answer}
+use Rattle.answers.specs.declared.Refusal.{Refusal}
+use Rattle.flight.specs.declared.Flight.{Flight}
 use Rattle.state_block.proofs.Reading.{accepted-full}
 use Rattle.state_block.specs.Layout.{read_full_of}
-use Rattle.state_block.specs.declared.StateRead.{StateRead}
-use Rattle.lines.specs.Opening.{FromBlock, FromBlocks, FromState, Ready, opened_by, with_state, without_state}
+use Rattle.lines.specs.Opening.{FromBlock, FromBlocks, FromState, Ready, accepted, opened_by}
 use Rattle.lines.specs.declared.opening.Opened.{Opened}
 
--- a state read from the bytes s
-pub from-state : (a : Airframe) (r : Opened) (y : StateRead) (s : List ℕ) → y ≡ read_full_of s → r ≡ with_state a y r.failed → FromState a r
-from-state a r y s e h = record { state = s; same = h ∙ ap (λ (z : StateRead). with_state a z r.failed) e }
+-- the airframe as it was read, and the state
+abbrev airframe_read : List ℕ → Result Airframe Refusal
+airframe_read s = accepted (read_airframe_of s).answer (read_airframe_of s).airframe
 
--- behind an accepted airframe, what the state's bytes give
-with-state : (x : AirframeRead) (y : StateRead) (failed : Bool) → number_of x.answer ≡ 0 → with_state x.airframe y failed ≡ opened_by x y failed
-unfolding opened_by
-with-state x y failed n = simp (eq-eqb (number_of x.answer) 0 n)
+abbrev state_read : List ℕ → Result Flight Refusal
+state_read s = accepted (read_full_of s).answer (read_full_of s).flight
 
-pub goes_on : (x : AirframeRead) (r : Opened) → FromBlock x → number_of x.answer ≡ 0 → FromState x.airframe r → FromBlocks r
-goes_on x r b n f =
-    let y : StateRead = read_full_of f.state in
+-- a refused airframe ends it
+pub ends : (refusal : Refusal) → FromBlock (Err refusal) → FromBlocks (Err refusal)
+ends refusal b = record { block = b.block; state = []; same = ap (λ (x : Result Airframe Refusal). opened_by x (state_read [])) b.same }
+
+-- behind an accepted one, what the state's bytes give
+pub goes_on : (a : Airframe) (y : Result Flight Refusal) → FromBlock (Ok a) → FromState y → FromBlocks (opened_by (Ok a) y)
+goes_on a y b f =
     record {
       block = b.block;
       state = f.state;
-      same = f.same ∙ with-state x y r.failed n ∙ ap (λ (z : AirframeRead). opened_by z y r.failed) b.same;
+      same = ap (λ (x : Result Airframe Refusal). opened_by x y) b.same ∙ ap (opened_by (airframe_read b.block)) f.same;
     }
 
--- a refused one ends it
-without-state : (x : AirframeRead) (y : StateRead) (failed : Bool) → (number_of x.answer ≡ 0 → ⊥) → without_state x failed ≡ opened_by x y failed
-unfolding opened_by
-without-state x y failed n = simp (ne_eqb (number_of x.answer) 0 n)
+-- what is accepted may be flown
+abbrev Good : Result Opened Refusal → Type 0
+Good (Ok o) = Ready o.airframe o.flight
+Good (Err refusal) = Unit {0}
 
-pub ends : (x : AirframeRead) (r : Opened) → FromBlock x → (number_of x.answer ≡ 0 → ⊥) → r ≡ without_state x r.failed → FromBlocks r
-ends x r b n e =
-    let y : StateRead = read_full_of [] in
-    record {
-      block = b.block;
-      state = [];
-      same = e ∙ without-state x y r.failed n ∙ ap (λ (z : AirframeRead). opened_by z y r.failed) b.same;
-    }
-
--- a reply of 0: airframe and state may be flown
-abbrev Good : Opened → Type 0
-Good r = number_of r.answer ≡ 0 → Ready r.airframe r.flight
-
-opened-good : (s t : List ℕ) (failed : Bool) → Good (opened_by (read_airframe_of s) (read_full_of t) failed)
-unfolding opened_by with_state without_state
-opened-good s t failed = go (eqb (number_of (read_airframe_of s).answer) 0) refl
+opened-good : (s t : List ℕ) → Good (opened_by (airframe_read s) (state_read t))
+unfolding accepted
+opened-good s t = go (read_airframe_of s).answer (read_full_of t).answer refl refl
   where
-    go : (b : Bool) → eqb (number_of (read_airframe_of s).answer) 0 ≡ b
-        → Good (cond b (with_state (read_airframe_of s).airframe (read_full_of t) failed) (without_state (read_airframe_of s) failed))
-    go true h n = record {
-      airframe = accepted-is-accepted s (number-done _ (eqb-true _ _ h));
-      state = accepted-full t (number-done _ n);
-    }
-    go false h n = absurd (eqb-false _ _ h n)
+    go :
+        (x y : Answer)
+        → (read_airframe_of s).answer ≡ x
+        → (read_full_of t).answer ≡ y
+        → Good (opened_by (accepted x (read_airframe_of s).airframe) (accepted y (read_full_of t).flight))
+    go (Ok u) (Ok v) h k = record { airframe = accepted-is-accepted s h; state = accepted-full t k }
+    go (Ok u) (Err x) h k = tt
+    go (Err x) y h k = tt
 
-pub opened-ready : (r : Opened) → FromBlocks r → number_of r.answer ≡ 0 → Ready r.airframe r.flight
-opened-ready r b = subst Good (sym b.same) (opened-good b.block b.state r.failed)
+pub opened-ready : (r : Result Opened Refusal) (o : Opened) → FromBlocks r → r ≡ Ok o → Ready o.airframe o.flight
+opened-ready r o b e = subst Good (sym b.same ∙ e) (opened-good b.block b.state)

@@ -174,5 +174,5 @@ mirroring-all a p [] h = h
 mirroring-all a p (t ∷ ts) h = mirroring-all a (shown_on a p t) ts (unfold shown_on in mirroring-on a p.tracks t h)
 
 pub none-differs : (a : Airframe) (f : Flight) (ts : List Tick) → (shown_over a (tracks_at_start f) ts).tracks.differs ≡ 0
-unfolding shown_over tracks_at_start
+unfolding tracks_at_start
 none-differs a f ts = (mirroring-all a _ ts (record { states = reflect-flight f; none = refl })).none

@@ -7,4 +7,6 @@ pub mod Text
 pub mod Page
 pub mod Compare
 pub mod Tracks
+pub mod InParts
 pub mod Verdict
+pub mod Summary

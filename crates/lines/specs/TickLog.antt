@@ -1,10 +1,9 @@
 -- Ticks flown one after the other, and the text of their lines. Definitions only.
-use Rattle.std.specs.Prelude.{ℕ, ◌+◌, ◌%◌, ◌^◌, List, [], ◌++◌}
+use Rattle.std.specs.Prelude.{◌≡◌, ℕ, ◌+◌, ◌%◌, ◌^◌, List, [], ◌++◌}
 use mathlib.Core.List.{foldl}
 use Rattle.airframe.specs.declared.Airframe.{Airframe}
 use Rattle.flight.specs.declared.Flight.{Flight}
 use Rattle.flight.specs.declared.Tick.{Tick}
-use Rattle.trace.specs.Trace.{ticks_of}
 use Rattle.wing.specs.Tick.{tick_of}
 use Rattle.lines.specs.Text.{line_text}
 use Rattle.lines.specs.declared.flown.Flown.{Flown}
@@ -16,11 +15,11 @@ pub record TickLog : Type 0 where
   pub text : List ℕ
 
 -- before the first of them
-unfoldable pub log_from : Flight → ℕ → TickLog
+abbrev pub log_from : Flight → ℕ → TickLog
 log_from f index = record { flight = f; index = index; text = [] }
 
 -- counts are in 64 bits
-unfoldable pub one_more : ℕ → ℕ
+abbrev pub one_more : ℕ → ℕ
 one_more n = (n + 1) % 2 ^ 64
 
 -- the line of a tick, by what it answers and hands back
@@ -39,6 +38,18 @@ log_on a p t = record {
 unfoldable pub log_of : Airframe → TickLog → List Tick → TickLog
 log_of a p ts = foldl (log_on a) p ts
 
--- the ticks of a trace, after those that p has flown
-abbrev pub log_over : Airframe → Flown → List ℕ → TickLog
-log_over a p s = log_of a (log_from p.flight p.index) (ticks_of s)
+-- ---- what a program keeps of a flight alone
+
+-- before the first tick
+pub record StartsAlone (f : Flight) (p : Flown) : Type 0 where
+  pub flight : p.flight ≡ f
+  pub index : p.index ≡ 0
+
+-- some ticks lead from p to q
+pub record LeadsAlone (a : Airframe) (p : Flown) (ts : List Tick) (q : Flown) : Type 0 where
+  pub flight : q.flight ≡ (log_of a (log_from p.flight p.index) ts).flight
+  pub index : q.index ≡ (log_of a (log_from p.flight p.index) ts).index
+
+-- their lines
+abbrev pub lines_alone : Airframe → Flown → List Tick → List ℕ
+lines_alone a p ts = (log_of a (log_from p.flight p.index) ts).text

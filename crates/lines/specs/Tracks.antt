@@ -1,5 +1,7 @@
 -- A flight and its reflection, tick by tick, and their lines. Definitions only.
-use Rattle.std.specs.Prelude.{ℕ, Bool, cond, List, [], ◌++◌, ◌==◌}
+use Rattle.std.specs.Prelude.{◌≡◌, ℕ, Option, None, Some, cond, List, [], ◌++◌, ◌==◌}
+use Rattle.std.specs.Int.NonZero.{non_zero_u64_get}
+use Rattle.std.specs.declared.num.NonZeroU64.{NonZeroU64}
 use mathlib.Core.List.{foldl}
 use Rattle.airframe.specs.Reflection.{reflect_airframe}
 use Rattle.airframe.specs.declared.Airframe.{Airframe}
@@ -8,13 +10,11 @@ use Rattle.answers.specs.Answers.{Answer}
 use Rattle.flight.specs.Reflection.{reflect_flight, reflect_tick}
 use Rattle.flight.specs.declared.Flight.{Flight}
 use Rattle.flight.specs.declared.Tick.{Tick}
-use Rattle.lines.specs.TickLog.{log_over, one_more}
+use Rattle.lines.specs.TickLog.{one_more}
 use Rattle.lines.specs.Text.{line_text, mirrored_text}
-use Rattle.trace.specs.Trace.{ticks_of}
 use Rattle.wing.specs.Tick.{tick_of}
 use Rattle.wing.specs.declared.TickResult.{TickResult}
 use Rattle.lines.specs.Compare.{mirrored_tick}
-use Rattle.lines.specs.declared.flown.Flown.{Flown}
 use Rattle.lines.specs.declared.track.Track.{Track}
 
 -- the two states, how many ticks there were, how many of them each flight accepted, and the first that does not mirror (0: none)
@@ -26,7 +26,12 @@ pub record Tracks : Type 0 where
   pub mirrored : ℕ
   pub differs : ℕ
 
--- those of the program, which also knows where its lines end
+-- a tick's index, 0 for none
+abbrev pub tick_or_0 : Option NonZeroU64 → ℕ
+tick_or_0 None = 0
+tick_or_0 (Some tick) = non_zero_u64_get tick
+
+-- those of the program
 abbrev pub tracks_of : Track → Tracks
 tracks_of p = record {
   first = p.first;
@@ -34,7 +39,7 @@ tracks_of p = record {
   ticks = p.ticks;
   accepted = p.accepted;
   mirrored = p.accepted_mirrored;
-  differs = p.differs;
+  differs = tick_or_0 p.differs;
 }
 
 unfoldable pub tracks_at_start : Flight → Tracks
@@ -73,7 +78,7 @@ pair_text index x y = line_text index x.report.answer x.flight ++ mirrored_text 
 unfoldable pub text_on : Airframe → Tracks → Tick → List ℕ
 text_on a p t = pair_text (one_more p.ticks) (tick_of a p.first t) (tick_of (reflect_airframe a) p.second (reflect_tick t))
 
--- ---- the ticks of a trace, one after the other
+-- ---- ticks, one after the other
 
 -- the tracks after some ticks, and the text of their lines
 pub record Shown : Type 0 where
@@ -85,35 +90,19 @@ unfoldable pub shown_on : Airframe → Shown → Tick → Shown
 shown_on a p t = record { tracks = tracks_on a p.tracks t; text = p.text ++ text_on a p.tracks t }
 
 -- some ticks, from the tracks p on
-unfoldable pub shown_over : Airframe → Tracks → List Tick → Shown
+abbrev pub shown_over : Airframe → Tracks → List Tick → Shown
 shown_over a p ts = foldl (shown_on a) (record { tracks = p; text = [] }) ts
 
--- the ticks of a trace, after those that p has flown: the tracks, and the text of their lines
-abbrev pub tracks_flown : Airframe → Track → List ℕ → Tracks
-tracks_flown a p s = (shown_over a (tracks_of p) (ticks_of s)).tracks
+-- ---- what a program keeps of a flight and its reflection
 
-abbrev pub text_flown : Airframe → Track → List ℕ → List ℕ
-text_flown a p s = (shown_over a (tracks_of p) (ticks_of s)).text
+-- before the first tick
+abbrev pub StartsBeside : Flight → Track → Type 0
+StartsBeside f p = tracks_of p ≡ tracks_at_start f
 
--- ---- a page of a program: with its reflection beside the flight, or the flight alone, whose ticks are counted
+-- some ticks lead from p to q
+abbrev pub LeadsBeside : Airframe → Track → List Tick → Track → Type 0
+LeadsBeside a p ts q = tracks_of q ≡ (shown_over a (tracks_of p) ts).tracks
 
--- the flight of the tracks, alone
-abbrev alone : Track → Flown
-alone p = record { flight = p.first; index = p.ticks; at = 0 }
-
--- the tracks after a page of the flight alone
-abbrev tracks_alone : Airframe → Track → List ℕ → Tracks
-tracks_alone a p s = record {
-  first = (log_over a (alone p) s).flight;
-  second = p.second;
-  ticks = (log_over a (alone p) s).index;
-  accepted = p.accepted;
-  mirrored = p.accepted_mirrored;
-  differs = p.differs;
-}
-
-unfoldable pub tracks_over : Bool → Airframe → Track → List ℕ → Tracks
-tracks_over beside a p s = cond beside (tracks_flown a p s) (tracks_alone a p s)
-
-unfoldable pub page_text : Bool → Airframe → Track → List ℕ → List ℕ
-page_text beside a p s = cond beside (text_flown a p s) (log_over a (alone p) s).text
+-- their lines
+abbrev pub lines_beside : Airframe → Track → List Tick → List ℕ
+lines_beside a p ts = (shown_over a (tracks_of p) ts).text

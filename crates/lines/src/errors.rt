@@ -1,6 +1,14 @@
 // What the programs say on standard error.
 use std::io;
 
+// What keeps a program from going on: its input cannot be opened, or read to its end, or the lines cannot be written.
+#[derive(Clone, Copy)]
+pub enum Trouble {
+    Unopened(io::Error),
+    Unread(io::Error),
+    Unwritten(io::Error),
+}
+
 // What cannot be said there is lost.
 fn say(rt: &HostRuntime, text: &[u8]) {
     let _ = rt.stderr().write_all(text);
@@ -32,27 +40,19 @@ fn say_reason(rt: &HostRuntime, error: io::Error) {
     }
 }
 
-// What the program cannot do with the file of that name, and the system's reason.
-fn because(rt: &HostRuntime, program: &[u8], what: &[u8], name: &[u8], error: io::Error) {
+// What keeps the program from going on with the input of that name, and the system's reason.
+pub fn report(rt: &HostRuntime, program: &[u8], name: &[u8], trouble: Trouble) {
+    let (doing, name, error) = match trouble {
+        Trouble::Unopened(error) => ("open", name, error),
+        Trouble::Unread(error) => ("read", name, error),
+        Trouble::Unwritten(error) => ("write", "standard output".as_bytes(), error),
+    };
     say(rt, program);
-    say(rt, what);
+    say(rt, b": cannot ");
+    say(rt, doing.as_bytes());
+    say(rt, b" ");
     say(rt, name);
     say(rt, b": ");
     say_reason(rt, error);
     say(rt, b"\n");
-}
-
-// The file cannot be opened.
-pub fn unopened(rt: &HostRuntime, program: &[u8], name: &[u8], error: io::Error) {
-    because(rt, program, b": cannot open ", name, error);
-}
-
-// The file cannot be read to its end.
-pub fn unread(rt: &HostRuntime, program: &[u8], name: &[u8], error: io::Error) {
-    because(rt, program, b": cannot read ", name, error);
-}
-
-// The lines cannot be written.
-pub fn unwritten(rt: &HostRuntime, program: &[u8], error: io::Error) {
-    because(rt, program, b": cannot write ", b"standard output", error);
 }

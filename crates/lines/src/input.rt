@@ -1,7 +1,6 @@
 // Where the input comes from, and its bytes.
 ghost use Rattle.std.specs.Prelude.{◌≡◌, ◌≤◌, length};
 ghost use Rattle.lines.specs.Asked.{asked_by};
-ghost use Rattle.lines.specs.Page.{page_bytes};
 
 use crate::page::PAGE_BYTES;
 use std::env::FillError;
@@ -19,6 +18,7 @@ pub enum Asked {
 }
 
 // By how many words the program was called with, its own name among them, and whether standard input is a terminal.
+#[tactic(auto, unfolding(crate::specs::Asked::asked_by))]
 pub fn asked_for(words: usize, terminal: bool) -> Asked
     ensures { result ≡ asked_by words terminal }
 {
@@ -37,10 +37,7 @@ pub fn asked_for(words: usize, terminal: bool) -> Asked
 // Whether the program was called with a word i, its own name being word 0.
 fn has_word(rt: &HostRuntime, i: usize) -> bool {
     let mut start = [0u8; 1];
-    match rt.arg(i, &mut start) {
-        Err(FillError::NotPresent) => false,
-        _ => true,
-    }
+    !matches!(rt.arg(i, &mut start), Err(FillError::NotPresent))
 }
 
 // How many words the program was called with: 3 stands for more, too.
@@ -55,12 +52,10 @@ pub fn word_count(rt: &HostRuntime) -> usize
     3
 }
 
-// Puts the first argument at the start of `name`, and answers how long it is: one that is longer than the page is taken for an
-// empty one.
-pub fn first_argument(rt: &HostRuntime, name: &mut [u8; PAGE_BYTES]) -> usize
-    ensures { result ≤ page_bytes }
-{
-    rt.arg(1, name).unwrap_or(0)
+// The first argument, in the buffer that is lent: one that is longer is taken for an empty one.
+pub fn first_argument<'a>(rt: &HostRuntime, name: &'a mut [u8; PAGE_BYTES]) -> &'a [u8] {
+    let n = rt.arg(1, name).unwrap_or(0);
+    &name[..n]
 }
 
 // Opens the file of that name. The system's names are bytes, those that can be opened are text.
@@ -78,59 +73,35 @@ pub struct Input<R> {
     pub error: Option<io::Error>,
 }
 
-// Nothing is read yet.
-pub fn of<R>(reader: R) -> Input<R>
-    ensures reader { result.reader ≡ reader }
-    ensures error { result.error ≡ None }
-{
-    Input {
-        reader,
-        error: None,
+impl<R> Input<R> {
+    // Nothing is read yet.
+    pub fn new(reader: R) -> Input<R>
+        ensures reader { result.reader ≡ reader }
+        ensures error { result.error ≡ None }
+    {
+        Input {
+            reader,
+            error: None,
+        }
     }
 }
 
-// Where the bytes read into a buffer end, and whether a read failed: a short end by itself is the end of the input.
-#[derive(Clone, Copy)]
-pub struct Filled {
-    pub end: usize,
-    pub failed: bool,
-}
-
-// One read into s from `from` up to `to`.
-fn read_on<R: Read>(input: &mut Input<R>, s: &mut [u8], from: usize, to: usize) -> Filled
-    requires order { from ≤ to }
-    requires room { to ≤ length s.old }
-    ensures { (from ≤ result.end) × (result.end ≤ to) }
-{
-    match input.reader.read(&mut s[from..to]) {
-        Ok(more) => Filled {
-            end: from + more,
-            failed: false,
-        },
-        Err(error) => {
-            input.error = Some(error);
-            Filled {
-                end: from,
-                failed: true,
+impl<R: Read> Input<R> {
+    // Reads on into s until it is full, the input ends or a read fails, and answers how many bytes came.
+    pub fn fill(&mut self, s: &mut [u8]) -> usize
+        ensures { result ≤ length s.old }
+    {
+        let mut end = 0;
+        while end < s.len() {
+            match self.reader.read(&mut s[end..]) {
+                Ok(0) => break,
+                Ok(more) => end += more,
+                Err(error) => {
+                    self.error = Some(error);
+                    break;
+                }
             }
         }
+        end
     }
-}
-
-// Reads on into s from `from` up to `to`, the end of the input, or a read that fails.
-pub fn fill<R: Read>(input: &mut Input<R>, s: &mut [u8], from: usize, to: usize) -> Filled
-    requires order { from ≤ to }
-    requires room { to ≤ length s.old }
-    ensures low { from ≤ result.end }
-    ensures high { result.end ≤ to }
-{
-    let mut end = from;
-    while end < to {
-        let read = read_on(input, s, end, to);
-        if read.end == end {
-            return read;
-        }
-        end = read.end;
-    }
-    Filled { end, failed: false }
 }

@@ -1,95 +1,84 @@
 // A tick's line: index, answer, and the 13 numbers of the state's body.
-ghost use Rattle.std.specs.Prelude.{◌≡◌, ◌+◌, ◌≤◌, length};
-ghost use Rattle.lines.specs.Text.{attitude_text, body_text, line_text, mirrored_text, overwrite, rest_text, vec_text};
+ghost use Rattle.std.specs.Prelude.{◌≡◌, ◌+◌, ◌≤◌, ◌++◌, length};
+ghost use Rattle.lines.specs.Text.{attitude_text, body_text, line_text, mirrored_text, rest_text, vec_text};
 ghost use Rattle.lines.specs.Page.{line_bytes, page_bytes};
 
-use crate::page::PAGE_BYTES;
-use crate::{digits, text};
+use crate::page::Page;
 use answers::Answer;
 use body::Body;
 use flight::Flight;
 use vector::{Quaternion, Vec3};
 
-fn put_vec(out: &mut [u8; PAGE_BYTES], at: usize, v: Vec3) -> usize
-    requires { at + 27 ≤ page_bytes }
-    ensures page { out.new ≡ overwrite out.old at (vec_text v) }
-    ensures end { result ≡ at + length (vec_text v) }
-    ensures within { result ≤ at + 27 }
-{
-    let y = digits::put_word(out, at, v.x);
-    let z = digits::put_word(out, y, v.y);
-    digits::put_word(out, z, v.z)
-}
+impl Page {
+    #[tactic(auto, unfolding(crate::specs::Text::vec_text))]
+    fn put_vec(&mut self, v: Vec3)
+        requires { length self.old + 27 ≤ page_bytes }
+        ensures page { self.new ≡ self.old ++ vec_text v }
+        ensures within { length self.new ≤ length self.old + 27 }
+    {
+        self.put_word(v.x);
+        self.put_word(v.y);
+        self.put_word(v.z);
+    }
 
-fn put_attitude(out: &mut [u8; PAGE_BYTES], at: usize, q: Quaternion) -> usize
-    requires { at + 36 ≤ page_bytes }
-    ensures page { out.new ≡ overwrite out.old at (attitude_text q) }
-    ensures end { result ≡ at + length (attitude_text q) }
-    ensures within { result ≤ at + 36 }
-{
-    let i = digits::put_word(out, at, q.w);
-    let j = digits::put_word(out, i, q.i);
-    let k = digits::put_word(out, j, q.j);
-    digits::put_word(out, k, q.k)
-}
+    #[tactic(auto, unfolding(crate::specs::Text::attitude_text))]
+    fn put_attitude(&mut self, q: Quaternion)
+        requires { length self.old + 36 ≤ page_bytes }
+        ensures page { self.new ≡ self.old ++ attitude_text q }
+        ensures within { length self.new ≤ length self.old + 36 }
+    {
+        self.put_word(q.w);
+        self.put_word(q.i);
+        self.put_word(q.j);
+        self.put_word(q.k);
+    }
 
-// Puts the body's position, velocity, attitude and rates at `at`.
-fn put_body(out: &mut [u8; PAGE_BYTES], at: usize, b: Body) -> usize
-    requires { at + 117 ≤ page_bytes }
-    ensures page { out.new ≡ overwrite out.old at (body_text b) }
-    ensures end { result ≡ at + length (body_text b) }
-    ensures within { result ≤ at + 117 }
-{
-    let velocity = put_vec(out, at, b.position_ned_m);
-    let attitude = put_vec(out, velocity, b.velocity_ned_mps);
-    let rates = put_attitude(out, attitude, b.attitude);
-    put_vec(out, rates, b.angular_velocity_radps)
-}
+    // Puts the body's position, velocity, attitude and rates.
+    #[tactic(auto, unfolding(crate::specs::Text::body_text))]
+    fn put_body(&mut self, b: Body)
+        requires { length self.old + 117 ≤ page_bytes }
+        ensures page { self.new ≡ self.old ++ body_text b }
+        ensures within { length self.new ≤ length self.old + 117 }
+    {
+        self.put_vec(b.position_ned_m);
+        self.put_vec(b.velocity_ned_mps);
+        self.put_attitude(b.attitude);
+        self.put_vec(b.angular_velocity_radps);
+    }
 
-// Puts what follows a line's index at `at`.
-fn put_rest(out: &mut [u8; PAGE_BYTES], at: usize, answer: Answer, f: Flight) -> usize
-    requires { at + 139 ≤ page_bytes }
-    ensures page { out.new ≡ overwrite out.old at (rest_text answer f) }
-    ensures end { result ≡ at + length (rest_text answer f) }
-    ensures within { result ≤ at + 139 }
-{
-    let number = text::put_byte(out, at, b' ');
-    let body = digits::put_decimal(out, number, digits::wide(answer.number()));
-    let end = put_body(out, body, f.body());
-    text::put_byte(out, end, b'\n')
-}
+    // Puts what follows a line's index.
+    #[tactic(auto, unfolding(crate::specs::Text::rest_text))]
+    fn put_rest(&mut self, answer: Answer, f: Flight)
+        requires { length self.old + 139 ≤ page_bytes }
+        ensures page { self.new ≡ self.old ++ rest_text answer f }
+        ensures within { length self.new ≤ length self.old + 139 }
+    {
+        self.put_byte(b' ');
+        self.put_decimal(u64::from(answers::number(answer)));
+        self.put_body(f.body());
+        self.put_byte(b'\n');
+    }
 
-// Puts the line of the tick `index`, its answer and the state handed back, at `at`.
-pub fn put_line(
-    out: &mut [u8; PAGE_BYTES],
-    at: usize,
-    index: u64,
-    answer: Answer,
-    f: Flight,
-) -> usize
-    requires { at + line_bytes ≤ page_bytes }
-    ensures page { out.new ≡ overwrite out.old at (line_text index answer f) }
-    ensures end { result ≡ at + length (line_text index answer f) }
-    ensures within { result ≤ at + line_bytes }
-{
-    let rest = digits::put_decimal(out, at, index);
-    put_rest(out, rest, answer, f)
-}
+    // Puts the line of the tick `index`, its answer and the state handed back.
+    #[tactic(auto, unfolding(crate::specs::Text::line_text))]
+    pub fn put_line(&mut self, index: u64, answer: Answer, f: Flight)
+        requires { length self.old + line_bytes ≤ page_bytes }
+        ensures page { self.new ≡ self.old ++ line_text index answer f }
+        ensures within { length self.new ≤ length self.old + line_bytes }
+    {
+        self.put_decimal(index);
+        self.put_rest(answer, f);
+    }
 
-// The same with a mark behind the index, for the flight's reflection.
-pub fn put_mirrored_line(
-    out: &mut [u8; PAGE_BYTES],
-    at: usize,
-    index: u64,
-    answer: Answer,
-    f: Flight,
-) -> usize
-    requires { at + line_bytes ≤ page_bytes }
-    ensures page { out.new ≡ overwrite out.old at (mirrored_text index answer f) }
-    ensures end { result ≡ at + length (mirrored_text index answer f) }
-    ensures within { result ≤ at + line_bytes }
-{
-    let mark = digits::put_decimal(out, at, index);
-    let rest = text::put_byte(out, mark, b'\'');
-    put_rest(out, rest, answer, f)
+    // The same with a mark behind the index, for the flight's reflection.
+    #[tactic(auto, unfolding(crate::specs::Text::mirrored_text))]
+    pub fn put_mirrored_line(&mut self, index: u64, answer: Answer, f: Flight)
+        requires { length self.old + line_bytes ≤ page_bytes }
+        ensures page { self.new ≡ self.old ++ mirrored_text index answer f }
+        ensures within { length self.new ≤ length self.old + line_bytes }
+    {
+        self.put_decimal(index);
+        self.put_byte(b'\'');
+        self.put_rest(answer, f);
+    }
 }

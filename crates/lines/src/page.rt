@@ -1,76 +1,112 @@
-// Standard output through a page of lines, and the lines of refused reads.
-ghost use Rattle.std.specs.Prelude.{◌≡◌, ◌+◌, ◌≤◌, length, replicate};
-ghost use Rattle.lines.specs.Text.{end_text, overwrite, refusal_text};
+// A page of text: standard output is written a page at a time.
+ghost use Rattle.std.specs.Prelude.{◌≡◌, ◌+◌, ◌<◌, ◌≤◌, ◌++◌, [], length};
+ghost use Rattle.lines.specs.Text.{byte_text, digits_of, end_text, refusal_text};
 ghost use Rattle.lines.specs.Page.{line_bytes, page_bytes};
 
-use crate::{digits, errors, text};
-use answers::Answer;
-use std::io;
+use crate::digits;
+use answers::Refusal;
+use std::marker::Model;
 
-// A page: one buffer of text or of ticks.
+// How many bytes have room on a page.
 pub const PAGE_BYTES: usize = 65536;
 
-// A page of zeros.
-pub fn blank() -> [u8; PAGE_BYTES]
-    ensures { result ≡ replicate page_bytes 0 }
-{
-    [0; PAGE_BYTES]
+// The bytes written so far, in a buffer of its own.
+#[derive(Drop)]
+pub struct Page {
+    bytes: [u8; PAGE_BYTES],
+    len: usize,
 }
 
-// Writes the first `at` bytes of `out`, or fails.
-fn write(rt: &HostRuntime, out: &[u8], at: usize) -> io::Result<()>
-    requires { at ≤ length out.now }
-{
-    rt.stdout().write_all(&out[..at])
+impl Model for Page {
+    ghost use Rattle.std.specs.Prelude.{ℕ, ◌≤◌, List, take};
+    ghost use Rattle.lines.specs.Page.{page_bytes};
+
+    ghost Value = { List ℕ };
+
+    ghost view = { λ p. take p.len p.bytes };
+
+    ghost invariant = { λ p. p.len ≤ page_bytes };
 }
 
-// Writes the page up to `at`, and answers whether all went well. If not, it says what went wrong: with writing the page or, where
-// `failed` has the error of a read, with reading what it was made of.
-pub fn flush(
-    rt: &HostRuntime,
-    program: &[u8],
-    name: &[u8],
-    failed: Option<io::Error>,
-    out: &[u8; PAGE_BYTES],
-    at: usize,
-) -> bool
-    requires { at ≤ page_bytes }
-{
-    if let Err(error) = write(rt, out, at) {
-        errors::unwritten(rt, program, error);
-        return false;
+impl Page {
+    // Nothing is written yet.
+    pub fn new() -> Page
+        ensures { result ≡ [] }
+    {
+        Page {
+            bytes: [0; PAGE_BYTES],
+            len: 0,
+        }
     }
-    if let Some(error) = failed {
-        errors::unread(rt, program, name, error);
-        return false;
-    }
-    true
-}
 
-// Puts the line of a refused read at `at`: 0, its answer and its place.
-pub fn put_refusal(out: &mut [u8; PAGE_BYTES], at: usize, answer: Answer) -> usize
-    requires { at + line_bytes ≤ page_bytes }
-    ensures page { out.new ≡ overwrite out.old at (refusal_text answer) }
-    ensures end { result ≡ at + length (refusal_text answer) }
-    ensures within { result ≤ at + line_bytes }
-{
-    let behind_0 = text::put_byte(out, at, b'0');
-    let number = text::put_byte(out, behind_0, b' ');
-    let behind_number = digits::put_decimal(out, number, digits::wide(answer.number()));
-    let place = text::put_byte(out, behind_number, b' ');
-    let end = digits::put_decimal(out, place, digits::wide(answer.place()));
-    text::put_byte(out, end, b'\n')
-}
-
-// Puts a refusal at `at` where the last `n` bytes read were not whole ticks, and answers where the page ends.
-pub fn put_end(out: &mut [u8; PAGE_BYTES], at: usize, n: usize) -> usize
-    requires { at + line_bytes ≤ page_bytes }
-    ensures page { out.new ≡ overwrite out.old at (end_text n) }
-    ensures end { result ≡ at + length (end_text n) }
-    ensures within { result ≤ at + line_bytes }
-{
-    if n % trace::TICK_BYTES == 0 {
-        return at;
+    pub fn clear(&mut self)
+        ensures { self.new ≡ [] }
+    {
+        self.len = 0;
     }
-    put_refusal(out, at, Answer::WrongLength)
+
+    // The text on the page.
+    pub fn text(&self) -> &[u8]
+        ensures { result.now ≡ self.now }
+    {
+        &self.bytes[..self.len]
+    }
+
+    pub fn put_byte(&mut self, b: u8)
+        requires { length self.old < page_bytes }
+        ensures { self.new ≡ self.old ++ byte_text b }
+    {
+        self.bytes[self.len] = b;
+        self.len += 1;
+    }
+
+    pub fn put_text(&mut self, text: &[u8])
+        requires { length self.old + length text.now ≤ page_bytes }
+        ensures { self.new ≡ self.old ++ text.now }
+    {
+        let end = self.len + text.len();
+        self.bytes[self.len..end].copy_from_slice(text);
+        self.len = end;
+    }
+
+    // Puts the last k digits of n in the base.
+    #[tactic(auto, using(crate::proofs::Texts::length_digits))]
+    pub fn put_digits(&mut self, n: u64, base: u64, k: usize)
+        requires nonzero { 0 < base }
+        requires small { base ≤ 16 }
+        requires room { length self.old + k ≤ page_bytes }
+        ensures page { self.new ≡ self.old ++ digits_of base k n }
+        ensures end { length self.new ≡ length self.old + k }
+    {
+        let end = self.len + k;
+        digits::write_digits(&mut self.bytes[self.len..end], n, base);
+        self.len = end;
+    }
+
+    // Puts the line of a refused read: 0, its answer and its place.
+    #[tactic(auto, unfolding(crate::specs::Text::refusal_text))]
+    pub fn put_refusal(&mut self, refusal: Refusal)
+        requires { length self.old + line_bytes ≤ page_bytes }
+        ensures page { self.new ≡ self.old ++ refusal_text refusal }
+        ensures within { length self.new ≤ length self.old + line_bytes }
+    {
+        self.put_byte(b'0');
+        self.put_byte(b' ');
+        self.put_decimal(u64::from(refusal.number()));
+        self.put_byte(b' ');
+        self.put_decimal(u64::from(refusal.place()));
+        self.put_byte(b'\n');
+    }
+
+    // Puts a refusal where the last `n` bytes read were not whole ticks.
+    #[tactic(auto, unfolding(crate::specs::Text::end_text))]
+    pub fn put_end(&mut self, n: usize)
+        requires { length self.old + line_bytes ≤ page_bytes }
+        ensures page { self.new ≡ self.old ++ end_text n }
+        ensures within { length self.new ≤ length self.old + line_bytes }
+    {
+        if n % trace::TICK_BYTES != 0 {
+            self.put_refusal(Refusal::WrongLength);
+        }
+    }
 }

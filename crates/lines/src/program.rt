@@ -1,130 +1,108 @@
 // What the programs fly and mirror do: all ticks of their input, a page at a time.
-ghost use Rattle.std.specs.Prelude.{◌≡◌, ◌*◌, ◌≤◌, length};
+ghost use Rattle.std.specs.Prelude.{◌≡◌, ◌*◌, ◌≤◌, ◌++◌, length};
 ghost use Rattle.lines.specs.Opening.{Ready};
 ghost use Rattle.lines.specs.Page.{line_bytes, page_bytes};
-ghost use Rattle.lines.specs.Text.{overwrite};
-ghost use Rattle.lines.specs.Tracks.{page_text, tracks_of, tracks_over};
 ghost use Rattle.trace.specs.Tick.{tick_bytes};
+ghost use Rattle.trace.specs.Trace.{ticks_of};
 
-use crate::flown::Flown;
+use crate::errors::Trouble;
 use crate::input::{Asked, Input};
+use crate::log::Log;
 use crate::opening::TICKS_BYTES;
-use crate::page::PAGE_BYTES;
-use crate::track::Track;
-use crate::{errors, flown, input, opening, page, report, track};
+use crate::page::{PAGE_BYTES, Page};
+use crate::{errors, input, log, opening};
 use airframe::Airframe;
 use flight::Flight;
 use std::io::{IsTerminal, Read};
 
-// Flies the trace's whole ticks, and puts their lines at the page's start: of the flight alone or, where `beside` says so, with its
-// reflection beside it.
-fn fly_page(a: Airframe, p: Track, trace: &[u8], beside: bool, out: &mut [u8; PAGE_BYTES]) -> Track
+// Flies the trace's whole ticks, and puts their lines on an empty page.
+fn fly_page<L: Log>(a: Airframe, p: L, trace: &[u8], page: &mut Page) -> L
     requires { length trace.now ≤ 200 * tick_bytes }
-    ensures tracks { tracks_of result ≡ tracks_over beside a p trace.now }
-    ensures page { out.new ≡ overwrite out.old 0 (page_text beside a p trace.now) }
-    ensures end { result.at ≡ length (page_text beside a p trace.now) }
-    ensures within { result.at ≤ 200 * (2 * line_bytes) }
+    ensures log { L.leads a p (ticks_of trace.now) result }
+    ensures page { page.new ≡ L.lines a p (ticks_of trace.now) }
+    ensures within { length page.new ≤ 200 * (2 * line_bytes) }
 {
-    if beside {
-        return track::fly_ticks(a, p, trace, out);
-    }
-    let flight = p.first;
-    let alone = Flown {
-        flight,
-        index: p.ticks,
-        at: 0,
-    };
-    let flown = flown::fly_ticks(a, alone, trace, out);
-    let first = flown.flight;
-    let second = p.second;
-    Track {
-        first,
-        second,
-        ticks: flown.index,
-        accepted: p.accepted,
-        accepted_mirrored: p.accepted_mirrored,
-        differs: p.differs,
-        at: flown.at,
-    }
+    page.clear();
+    log::fly_ticks(a, p, trace, page)
 }
 
-// Puts what follows the lines of the last n bytes read.
-fn end_page(out: &mut [u8; PAGE_BYTES], p: Track, n: usize, beside: bool) -> usize
-    requires { p.at ≤ 200 * (2 * line_bytes) }
-    ensures { result ≤ page_bytes }
-{
-    if beside {
-        return report::put_end(out, p, n);
+// Writes the page, which may be made of what was read before a read failed.
+fn print<R>(rt: &HostRuntime, input: &Input<R>, page: &Page) -> Result<(), Trouble> {
+    rt.stdout()
+        .write_all(page.text())
+        .map_err(Trouble::Unwritten)?;
+    match input.error {
+        Some(error) => Err(Trouble::Unread(error)),
+        None => Ok(()),
     }
-    page::put_end(out, p.at, n)
 }
 
 // Flies all ticks of the input from f, where airframe and state are accepted.
-fn fly_input<R: Read>(
+fn fly_input<L: Log, R: Read>(
     rt: &HostRuntime,
-    program: &[u8],
     a: Airframe,
     f: Flight,
     input: &mut Input<R>,
-    name: &[u8],
-    beside: bool,
-)
+) -> Result<(), Trouble>
     requires { Ready a f }
 {
-    let mut ticks = page::blank();
-    let mut out = page::blank();
-    let mut p = track::start(f);
+    let mut buf = [0; TICKS_BYTES];
+    let mut page = Page::new();
+    let mut log = L::start(f);
     for _ in 0..u64::MAX {
-        let got = opening::read_ticks(input, &mut ticks);
-        let n = got.end;
-        p = fly_page(a, p, &ticks[..n], beside, &mut out);
-        let end = end_page(&mut out, p, n, beside);
-        let well = page::flush(rt, program, name, input.error, &out, end);
-        if !well {
-            return;
+        let trace = opening::read_ticks(input, &mut buf);
+        log = fly_page(a, log, trace, &mut page);
+        log.put_end(trace.len(), &mut page);
+        print(rt, input, &page)?;
+        if trace.len() < TICKS_BYTES {
+            break;
         }
-        if n < TICKS_BYTES {
-            return;
+    }
+    Ok(())
+}
+
+// Flies the input, where its airframe and its state are accepted; else it writes the refusal.
+fn fly<L: Log, R: Read>(rt: &HostRuntime, input: &mut Input<R>) -> Result<(), Trouble> {
+    match opening::open(input) {
+        Ok(opened) => fly_input::<L, R>(rt, opened.airframe, opened.flight, input),
+        Err(refusal) => {
+            let mut page = Page::new();
+            page.put_refusal(refusal);
+            print(rt, input, &page)
         }
     }
 }
 
-// Flies the input of that name, where its airframe and its state are accepted.
-fn fly<R: Read>(rt: &HostRuntime, program: &[u8], name: &[u8], input: &mut Input<R>, beside: bool) {
-    let o = opening::open(rt, program, name, input);
-    let answer = o.answer;
-    if answer.is_done() {
-        fly_input(rt, program, o.airframe, o.flight, input, name, beside);
-    }
-}
-
-// Flies the file that the first argument names.
-fn fly_named(rt: &HostRuntime, program: &[u8], beside: bool) {
-    let mut page = page::blank();
-    let n = input::first_argument(rt, &mut page);
-    let name = &page[..n];
-    match input::open_named(rt, name) {
-        Ok(file) => {
-            let mut from = input::of(file);
-            fly(rt, program, name, &mut from, beside);
-        }
-        Err(error) => errors::unopened(rt, program, name, error),
-    }
+// Flies the file of that name.
+fn fly_named<L: Log>(rt: &HostRuntime, name: &[u8]) -> Result<(), Trouble> {
+    let file = input::open_named(rt, name).map_err(Trouble::Unopened)?;
+    let mut input = Input::new(file);
+    fly::<L, _>(rt, &mut input)
 }
 
 // Flies standard input.
-fn fly_standard_input(rt: &HostRuntime, program: &[u8], beside: bool) {
-    let mut from = input::of(rt.stdin());
-    fly(rt, program, b"standard input", &mut from, beside);
+fn fly_standard_input<L: Log>(rt: &HostRuntime) -> Result<(), Trouble> {
+    let mut input = Input::new(rt.stdin());
+    fly::<L, _>(rt, &mut input)
 }
 
 // Flies the file or standard input that the program is asked to read, where its airframe and its state are accepted. What it cannot
 // read or write it says on standard error.
-pub fn fly_file(rt: &HostRuntime, program: &[u8], beside: bool) {
+pub fn fly_file<L: Log>(rt: &HostRuntime, program: &[u8]) {
     let asked = input::asked_for(input::word_count(rt), rt.stdin().is_terminal());
     match asked {
-        Asked::File => fly_named(rt, program, beside),
-        Asked::StandardInput => fly_standard_input(rt, program, beside),
+        Asked::File => {
+            let mut buf = [0; PAGE_BYTES];
+            let name = input::first_argument(rt, &mut buf);
+            if let Err(trouble) = fly_named::<L>(rt, name) {
+                errors::report(rt, program, name, trouble);
+            }
+        }
+        Asked::StandardInput => {
+            if let Err(trouble) = fly_standard_input::<L>(rt) {
+                errors::report(rt, program, b"standard input", trouble);
+            }
+        }
         Asked::Nothing => errors::usage(rt, program),
     }
 }

@@ -1,87 +1,83 @@
 // What is said at the end.
-ghost use Rattle.std.specs.Prelude.{◌+◌, ◌*◌, ◌≤◌, length};
+ghost use Rattle.std.specs.Prelude.{◌≡◌, ◌+◌, ◌*◌, ◌≤◌, ◌++◌, length};
 ghost use Rattle.lines.specs.Page.{line_bytes, page_bytes};
+ghost use Rattle.lines.specs.Summary.{counts_text, end_beside, summary_text, verdict_text};
+ghost use Rattle.lines.specs.Text.{decimal_text};
+ghost use Rattle.lines.specs.Tracks.{tracks_of};
 
 use crate::opening::TICKS_BYTES;
-use crate::page::PAGE_BYTES;
+use crate::page::Page;
 use crate::track::Track;
+use crate::verdict;
 use crate::verdict::Verdict;
-use crate::{digits, page, text, verdict};
 
-// Puts n and what was counted at `at`.
-fn put_count(out: &mut [u8; PAGE_BYTES], at: usize, n: u64, what: &[u8]) -> usize
-    requires { at + 20 + length what.now ≤ page_bytes }
-    ensures { result ≤ at + 20 + length what.now }
-{
-    let behind = digits::put_decimal(out, at, n);
-    text::put_text(out, behind, what)
-}
+impl Page {
+    // Puts n and what was counted.
+    fn put_count(&mut self, n: u64, what: &[u8])
+        requires { length self.old + 20 + length what.now ≤ page_bytes }
+        ensures page { self.new ≡ self.old ++ decimal_text n ++ what.now }
+        ensures within { length self.new ≤ length self.old + 20 + length what.now }
+    {
+        self.put_decimal(n);
+        self.put_text(what);
+    }
 
-// Puts how many ticks there were, and how many each flight accepted.
-fn put_counts(out: &mut [u8; PAGE_BYTES], at: usize, p: Track) -> usize
-    requires { at + 200 ≤ page_bytes }
-    ensures { result ≤ at + 200 }
-{
-    let accepted = put_count(out, at, p.ticks, b" ticks, ");
-    let mirrored = put_count(out, accepted, p.accepted, b" accepted, ");
-    put_count(
-        out,
-        mirrored,
-        p.accepted_mirrored,
-        b" accepted in the reflection\n",
-    )
-}
+    // Puts how many ticks there were, and how many each flight accepted.
+    #[tactic(auto, unfolding(crate::specs::Summary::counts_text))]
+    fn put_counts(&mut self, p: Track)
+        requires { length self.old + 200 ≤ page_bytes }
+        ensures page { self.new ≡ self.old ++ counts_text (tracks_of p) }
+        ensures within { length self.new ≤ length self.old + 200 }
+    {
+        self.put_count(p.ticks, b" ticks, ");
+        self.put_count(p.accepted, b" accepted, ");
+        self.put_count(p.accepted_mirrored, b" accepted in the reflection");
+        self.put_byte(b'\n');
+    }
 
-// Puts the verdict in words.
-fn put_verdict(out: &mut [u8; PAGE_BYTES], at: usize, v: Verdict) -> usize
-    requires { at + 200 ≤ page_bytes }
-    ensures { result ≤ at + 200 }
-{
-    match v {
-        Verdict::NoneAccepted => text::put_text(
-            out,
-            at,
-            b"no tick was accepted: nothing to compare",
-        ),
-        Verdict::Mirror => text::put_text(out, at, b"this flight and its own reflection mirror"),
-        Verdict::MirrorSoFar => text::put_text(
-            out,
-            at,
-            b"the whole ticks of this flight and its own reflection mirror",
-        ),
-        Verdict::DifferFrom(tick) => {
-            let number = text::put_text(
-                out,
-                at,
-                b"this flight and its own reflection do not mirror from tick ",
-            );
-            put_count(out, number, tick, b" on")
+    // Puts the verdict in words.
+    #[tactic(auto, unfolding(crate::specs::Summary::verdict_text))]
+    fn put_verdict(&mut self, v: Verdict)
+        requires { length self.old + 200 ≤ page_bytes }
+        ensures page { self.new ≡ self.old ++ verdict_text v }
+        ensures within { length self.new ≤ length self.old + 200 }
+    {
+        match v {
+            Verdict::NoneAccepted => self.put_text(b"no tick was accepted: nothing to compare"),
+            Verdict::Mirror => self.put_text(b"this flight and its own reflection mirror"),
+            Verdict::MirrorSoFar => self.put_text(
+                b"the whole ticks of this flight and its own reflection mirror",
+            ),
+            Verdict::DifferFrom(tick) => {
+                self.put_text(b"this flight and its own reflection do not mirror from tick ");
+                self.put_count(tick, b" on");
+            }
         }
     }
-}
 
-// Puts the counts and the verdict; `cut` says whether the last tick is cut short.
-fn put_summary(out: &mut [u8; PAGE_BYTES], at: usize, p: Track, cut: bool) -> usize
-    requires { at + 500 ≤ page_bytes }
-    ensures { result ≤ page_bytes }
-{
-    let verdict = put_counts(out, at, p);
-    let v = verdict::verdict_of(p.accepted, p.differs, cut);
-    let end = put_verdict(out, verdict, v);
-    if cut {
-        return text::put_text(out, end, b"; the last tick is cut short\n");
+    // Puts the counts and the verdict; `cut` says whether the last tick is cut short.
+    #[tactic(auto, unfolding(crate::specs::Summary::summary_text))]
+    fn put_summary(&mut self, p: Track, cut: bool)
+        requires { length self.old + 500 ≤ page_bytes }
+        ensures { self.new ≡ self.old ++ summary_text (tracks_of p) cut }
+    {
+        self.put_counts(p);
+        self.put_verdict(verdict::verdict_of(p.accepted, p.differs, cut));
+        if cut {
+            self.put_text(b"; the last tick is cut short");
+        }
+        self.put_byte(b'\n');
     }
-    text::put_text(out, end, b"\n")
-}
 
-// Puts what follows the lines of the last n bytes read: where the input ends there, the refusal of a cut tick and the summary.
-pub fn put_end(out: &mut [u8; PAGE_BYTES], p: Track, n: usize) -> usize
-    requires { p.at ≤ 200 * (2 * line_bytes) }
-    ensures { result ≤ page_bytes }
-{
-    let end = page::put_end(out, p.at, n);
-    if n == TICKS_BYTES {
-        return end;
+    // Puts what follows the lines of the last n bytes read: where the input ends there, the refusal of a cut tick and the summary.
+    #[tactic(auto, unfolding(crate::specs::Summary::end_beside))]
+    pub fn put_end_beside(&mut self, p: Track, n: usize)
+        requires { length self.old ≤ 200 * (2 * line_bytes) }
+        ensures { self.new ≡ self.old ++ end_beside p n }
+    {
+        self.put_end(n);
+        if n != TICKS_BYTES {
+            self.put_summary(p, n % trace::TICK_BYTES != 0);
+        }
     }
-    put_summary(out, end, p, n % trace::TICK_BYTES != 0)
 }

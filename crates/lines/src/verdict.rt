@@ -1,6 +1,9 @@
 // What is said of a flight and its reflection.
 ghost use Rattle.std.specs.Prelude.{◌≡◌};
+ghost use Rattle.lines.specs.Tracks.{tick_or_0};
 ghost use Rattle.lines.specs.Verdict.{verdict_of};
+
+use std::num::NonZeroU64;
 
 #[derive(Clone, Copy)]
 pub enum Verdict {
@@ -14,18 +17,15 @@ pub enum Verdict {
     DifferFrom(u64),
 }
 
-// By how many ticks the flight accepted, the first that does not mirror (0 for none), and whether the last tick is cut short.
-pub fn verdict_of(accepted: u64, differs: u64, cut: bool) -> Verdict
-    ensures { result ≡ verdict_of accepted differs cut }
+// By how many ticks the flight accepted, the first that does not mirror, and whether the last tick is cut short.
+#[tactic(auto, unfolding(crate::specs::Verdict::verdict_of))]
+pub fn verdict_of(accepted: u64, differs: Option<NonZeroU64>, cut: bool) -> Verdict
+    ensures { result ≡ verdict_of accepted (tick_or_0 differs) cut }
 {
-    if differs != 0 {
-        return Verdict::DifferFrom(differs);
+    match differs {
+        Some(tick) => Verdict::DifferFrom(tick.get()),
+        None if accepted == 0 => Verdict::NoneAccepted,
+        None if cut => Verdict::MirrorSoFar,
+        None => Verdict::Mirror,
     }
-    if accepted == 0 {
-        return Verdict::NoneAccepted;
-    }
-    if cut {
-        return Verdict::MirrorSoFar;
-    }
-    Verdict::Mirror
 }

@@ -3,5 +3,5 @@
 #![tactic(auto)]
 
 fn main(rt: HostRuntime) {
-    lines::fly_file(&rt, b"mirror", true);
+    lines::fly_file::<lines::Track>(&rt, b"mirror");
 }

@@ -4,15 +4,15 @@ use Rattle.airframe_block.proofs.Small.{announced-within}
 use Rattle.lines.specs.Opening.{wanted_by}
 use Rattle.lines.proofs.opening.airframe_wanted.Goals as goal
 
-pub returns-in-Bytes : goal.returns-in-Bytes
+pub returns-in-Ok : goal.returns-in-Ok
 unfolding wanted_by
-returns-in-Bytes c =
-    let e = sym c.announced_of-said.ensures ∙ c.in-Bytes.is in
+returns-in-Ok c =
+    let e = sym c.announced_of.ensures ∙ c.in-Ok.is in
     let w = announced-within _ _ _ e in
     record { count = ap wanted_by (sym e); low = w.0; high = w.1 }
 
-pub returns-in-Refused : goal.returns-in-Refused
+pub returns-in-Err : goal.returns-in-Err
 unfolding wanted_by
-returns-in-Refused c =
-    let e = sym c.announced_of-said.ensures ∙ c.in-Refused.is in
+returns-in-Err c =
+    let e = sym c.announced_of.ensures ∙ c.in-Err.is in
     record { count = ap wanted_by (sym e); low = search rules; high = search rules }
