@@ -1,11 +1,11 @@
 -- What `map` and `from_fn` make of a closure that gives a function's values and stays as it is: the list of these values. Assumes nothing.
 use Prim.Native.Nat.{◌+◌, ◌<◌, ◌≤◌, suc, zero, ℕ}
 use denote.Param.Members.{Mut}
-use lib.ListN.{get_or, length, length-map}
+use lib.ListN.{get_or, get_or-map, length, length-map}
 use lib.Seq.{ext_get_or}
-use mathlib.Core.List.{List, [], ◌∷◌, map}
+use mathlib.Core.List.{List, map}
 use mathlib.Core.Logic.{◌⊎◌, inl, inr}
-use mathlib.Core.Path.{◌∙◌, ◌≡◌, ap, refl, subst, sym}
+use mathlib.Core.Path.{◌∙◌, ◌≡◌, ap, subst, sym}
 use native.Mathlib.Nat.{eq-or-lt_of_le}
 use native.Mathlib.Omega.{arith}
 use Rattle.std.specs.Array.{IsFromFnResult, IsFromFnResultFrom, IsMapOf, MapsFrom}
@@ -27,15 +27,10 @@ module _ {F A B : Type 0} (g : Mut F (A × Unit {0}) B) (h : A → B) where
       go rest (inl w) = subst (λ j. get_or ys j e ≡ h (get_or xs j d)) w (m.4.1 e ∙ (act m.1 m.2 m.0 m.5).1 ∙ ap h (sym (m.3.1 d)))
       go rest (inr w) = rest w
 
-  map_at : (d : A) (xs : List A) (k : ℕ) → get_or (map h xs) k (h d) ≡ h (get_or xs k d)
-  map_at d [] k = refl
-  map_at d (x ∷ xs) zero = refl
-  map_at d (x ∷ xs) (suc k) = map_at d xs k
-
   pub map_same : (d : A) (f : F) (xs : List A) (ys : List B) (n : ℕ) → ActsAs g f h → length xs ≡ n → IsMapOf g f xs ys n → ys ≡ map h xs
   map_same d f xs ys n act long m =
       ext_get_or (h d) ys (map h xs) (m.long ∙ sym (length-map xs h ∙ long))
-      (λ k l. maps_at n 0 f xs ys act m.each k (omega arith) (omega (arith, l, m.long)) d (h d) ∙ sym (map_at d xs k))
+      (λ k l. maps_at n 0 f xs ys act m.each k (omega arith) (omega (arith, l, m.long)) d (h d) ∙ sym (get_or-map h xs k d))
 
 module _ {F B : Type 0} (g : Mut F (ℕ × Unit {0}) B) (h : ℕ → B) where
   made_at : (n i : ℕ) (f : F) (ys : List B) → ActsAs g f h → IsFromFnResultFrom g f ys i n → (k : ℕ) → i ≤ k → k < i + n → (e : B) → get_or ys k e ≡ h k

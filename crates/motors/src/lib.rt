@@ -135,9 +135,8 @@ impl Motors {
     pub fn spin(mut self, commands: [f32; 8], factor: f32) -> Self
         ensures { result ≡ Motor.spin_of self commands factor }
     {
-        let running = array::from_fn(|i| {
-            spun(self.group.used[i], self.running[i], commands[i], factor)
-        });
+        let used = self.group.used;
+        let running = array::from_fn(|i| spun(used[i], self.running[i], commands[i], factor));
         self.running = running;
         self
     }

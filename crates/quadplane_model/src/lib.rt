@@ -37,7 +37,8 @@ impl LiftRotors {
     pub fn spun(self, running: [f32; 8], commands: [f32; 8], factor: f32) -> [f32; 8]
         ensures { result ≡ Lift.rotors_spun self running commands factor }
     {
-        array::from_fn(|i| motors::spun(self.motors.used[i], running[i], commands[i], factor))
+        let used = self.motors.used;
+        array::from_fn(|i| motors::spun(used[i], running[i], commands[i], factor))
     }
 
     // Force and torque on body axes at the running values, `air_mps` being the air velocity on body axes: what of it passes along the

@@ -34,16 +34,14 @@ impl Surfaces {
     }
 
     // A step of the lag of all 8 servos: a command is held within -1..1, and NaN is 0.
-    pub fn move_to(self, commands: [f32; 8], factor: f32) -> Self
+    pub fn move_to(mut self, commands: [f32; 8], factor: f32) -> Self
         ensures { result ≡ Surface.move_to self commands factor }
     {
         let running = array::from_fn(|i| {
             lag::approach_saturated(self.running[i], commands[i], -1.0, 1.0, 0.0, factor)
         });
-        Surfaces {
-            weights: self.weights,
-            running,
-        }
+        self.running = running;
+        self
     }
 
     // Aileron, elevator and rudder as x, y and z, in rad: the weighed sums times `max_deflection_rad`.
