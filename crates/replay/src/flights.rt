@@ -1,12 +1,11 @@
 // The list of whole flights: after `< ` the input of fly in hex, then the lines that fly prints for it, each after `> `.
-ghost use Rattle.std.specs.Prelude.{IfSome, ◌≤◌, length};
-ghost use Rattle.lines.specs.Page.{page_bytes};
+ghost use Rattle.std.specs.Prelude.{IfSome, ◌≡◌, ◌≤◌, [], length};
 
 use crate::tally::Tally;
 use crate::{TakesLines, words};
 use airframe::Airframe;
 use arrayvec::ArrayVec;
-use lines::PAGE_BYTES;
+use lines::{Flown, Log, Page};
 use std::io;
 
 // How the lines of the flight at hand stand to what fly prints for it.
@@ -14,8 +13,8 @@ use std::io;
 enum Progress {
     // There is no flight yet.
     Before,
-    // All lines so far were found; the bytes from `at` to `end` of the page are left.
-    Same { at: usize, end: usize },
+    // All lines so far were found; what is on the page from `at` on is left.
+    Same { at: usize },
     Different,
 }
 
@@ -23,7 +22,7 @@ enum Progress {
 #[derive(Drop)]
 pub struct Flights {
     tally: Tally,
-    page: [u8; PAGE_BYTES],
+    page: Page,
     progress: Progress,
 }
 
@@ -31,7 +30,7 @@ impl Flights {
     pub fn new() -> Self {
         Flights {
             tally: Tally::default(),
-            page: [0; PAGE_BYTES],
+            page: Page::new(),
             progress: Progress::Before,
         }
     }
@@ -39,21 +38,18 @@ impl Flights {
     // An input's line: the flight before it is counted, and what fly prints for this one is put on the page.
     fn input(&mut self, digits: &[u8]) {
         self.tally = self.tally();
-        let end = print(decode(digits).as_slice(), &mut self.page);
-        self.progress = Progress::Same { at: 0, end };
+        self.page.clear();
+        print(decode(digits).as_slice(), &mut self.page);
+        self.progress = Progress::Same { at: 0 };
     }
 
     // A printed line: it has to be the next of the page.
     fn output(&mut self, line: &[u8]) {
-        if let Progress::Same { at, end } = self.progress {
-            self.progress = match self
-                .page
-                .get(at..end)
-                .and_then(|left| behind_line(left, line))
-            {
+        if let Progress::Same { at } = self.progress {
+            let text = self.page.text();
+            self.progress = match text.get(at..).and_then(|left| behind_line(left, line)) {
                 Some(left) => Progress::Same {
-                    at: end - left.len(),
-                    end,
+                    at: text.len() - left.len(),
                 },
                 None => Progress::Different,
             };
@@ -76,7 +72,7 @@ impl TakesLines for Flights {
         let mut tally = self.tally;
         match self.progress {
             Progress::Before => {}
-            Progress::Same { at, end } => tally.count(at == end),
+            Progress::Same { at } => tally.count(at == self.page.text().len()),
             Progress::Different => tally.count(false),
         }
         tally
@@ -101,10 +97,10 @@ fn decode(digits: &[u8]) -> ArrayVec<u8, 4096> {
     bytes
 }
 
-// Puts what fly prints for the input on the page, and answers where it ends.
-fn print(input: &[u8], page: &mut [u8; PAGE_BYTES]) -> usize
-    requires { length input.now ≤ 4096 }
-    ensures { result ≤ page_bytes }
+// Puts what fly prints for the input on the page.
+fn print(input: &[u8], page: &mut Page)
+    requires short { length input.now ≤ 4096 }
+    requires blank { page.old ≡ [] }
 {
     let wanted = match input {
         [first, second, ..] => lines::airframe_wanted(*first, *second),
@@ -112,22 +108,24 @@ fn print(input: &[u8], page: &mut [u8; PAGE_BYTES]) -> usize
     };
     let (block, rest) = input.split_at(wanted.min(input.len()));
     let read = airframe_block::read_airframe(block);
-    if !read.answer.is_done() {
-        return lines::put_refusal(page, 0, read.answer);
+    match read.answer {
+        Ok(()) => print_flight(read.airframe, rest, page),
+        Err(refusal) => page.put_refusal(refusal),
     }
-    print_flight(read.airframe, rest, page)
 }
 
 // The same behind the airframe.
-fn print_flight(airframe: Airframe, input: &[u8], page: &mut [u8; PAGE_BYTES]) -> usize
-    requires { length input.now ≤ 4096 }
-    ensures { result ≤ page_bytes }
+fn print_flight(airframe: Airframe, input: &[u8], page: &mut Page)
+    requires short { length input.now ≤ 4096 }
+    requires blank { page.old ≡ [] }
 {
     let (block, ticks) = input.split_at(state_block::STATE_BYTES.min(input.len()));
     let read = state_block::read_full_state(block);
-    if !read.answer.is_done() {
-        return lines::put_refusal(page, 0, read.answer);
+    match read.answer {
+        Ok(()) => {
+            lines::fly_ticks(airframe, Flown::start(read.flight), ticks, page);
+            page.put_end(ticks.len());
+        }
+        Err(refusal) => page.put_refusal(refusal),
     }
-    let flown = lines::fly_ticks(airframe, lines::start(read.flight), ticks, page);
-    lines::put_end(page, flown.at, ticks.len())
 }
