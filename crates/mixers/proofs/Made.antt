@@ -21,7 +21,8 @@ module _ {F A B : Type 0} (g : Mut F (A × Unit {0}) B) (h : A → B) where
       none : (k : ℕ) → i ≤ k → k < i + 0 → ⊥
       none k a b = omega arith
   maps_at (suc n) i f xs ys act m k a b d e =
-      go (λ w. maps_at n (i + 1) m.0 xs ys (subst (λ (p : F). ActsAs g p h) (sym (act m.1 m.2 m.0 m.5).0) act) m.6 k (omega arith) (omega arith) d e) (eq-or-lt_of_le a)
+      let act_on : ActsAs g m.0 h = subst (λ (p : F). ActsAs g p h) (sym (act m.1 m.2 m.0 m.5).0) act in
+      go (λ w. maps_at n (i + 1) m.0 xs ys act_on m.6 k (omega arith) (omega arith) d e) (eq-or-lt_of_le a)
     where
       go : (i < k → get_or ys k e ≡ h (get_or xs k d)) → (i ≡ k) ⊎ (i < k) → get_or ys k e ≡ h (get_or xs k d)
       go rest (inl w) = subst (λ j. get_or ys j e ≡ h (get_or xs j d)) w (m.4.1 e ∙ (act m.1 m.2 m.0 m.5).1 ∙ ap h (sym (m.3.1 d)))
@@ -39,7 +40,8 @@ module _ {F B : Type 0} (g : Mut F (ℕ × Unit {0}) B) (h : ℕ → B) where
       none : (k : ℕ) → i ≤ k → k < i + 0 → ⊥
       none k a b = omega arith
   made_at (suc n) i f ys act m k a b e =
-      go (λ w. made_at n (i + 1) m.0 ys (subst (λ (p : F). ActsAs g p h) (sym (act i m.1 m.0 m.3).0) act) m.4 k (omega arith) (omega arith) e) (eq-or-lt_of_le a)
+      let act_on : ActsAs g m.0 h = subst (λ (p : F). ActsAs g p h) (sym (act i m.1 m.0 m.3).0) act in
+      go (λ w. made_at n (i + 1) m.0 ys act_on m.4 k (omega arith) (omega arith) e) (eq-or-lt_of_le a)
     where
       go : (i < k → get_or ys k e ≡ h k) → (i ≡ k) ⊎ (i < k) → get_or ys k e ≡ h k
       go rest (inl w) = subst (λ j. get_or ys j e ≡ h j) w (m.2.1 e ∙ (act i m.1 m.0 m.3).1)
