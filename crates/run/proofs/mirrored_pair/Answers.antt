@@ -1,5 +1,5 @@
 -- `run::mirrored_pair` meets its contract. Assumes nothing.
-use mathlib.Core.List.{map}
+use mathlib.Core.List.{map, map-id}
 use mathlib.Core.Path.{◌∙◌, ◌≡◌, ap, sym}
 use native.Mathlib.Omega.{arith}
 use Rattle.airframe.specs.Reflection.{reflect_airframe}
@@ -9,7 +9,7 @@ use Rattle.trace.proofs.Reflection.{Bytes, reflected-ticks}
 use Rattle.trace.specs.Trace.{ticks_of}
 use Rattle.wing.proofs.Running.{Representable}
 use Rattle.run.proofs.Mirror.{demand3, ran-mirror}
-use Rattle.run.proofs.Loop.{plain-track, reflected-run, reflected-track}
+use Rattle.run.proofs.Loop.{reflected-run}
 use Rattle.run.specs.Promises.{track_result}
 use Rattle.run.specs.Run.{run_result_of, run_result_over}
 use Rattle.run.proofs.mirrored_pair.Goals as goal
@@ -28,9 +28,9 @@ returns c =
       lift = record { motor = λ k l. field-representable a.f.lift_motors _ k c.well_formed.1.0.1.1.1.1.1.1.1.1.1.1.1.1.1.1.1.1.1.1.0.1.1 };
     } in
     let second : c.run_track-second.result ≡ run_result_over (reflect_airframe a.a) (reflect_flight a.f) s (map reflect_tick ts) = c.run_track-second.ensures
-    ∙ rw (c.reflected.ensures, c.reflected-2.ensures, reflected-track ts) in
+    ∙ rw (c.reflected.ensures, c.reflected-2.ensures) in
     let first : c.run_track-first.result ≡ run_result_over a.a a.f s ts = c.run_track-first.ensures
-    ∙ ap (run_result_over a.a a.f s) (plain-track ts) in
+    ∙ ap (run_result_over a.a a.f s) (map-id ts) in
     record {
       first = first;
       second = second ∙ sym (reflected-run (reflect_airframe a.a) (reflect_flight a.f) s bytes);
