@@ -92,7 +92,8 @@ fn run_track<T: Track>(a: Airframe, f: Flight, trace: &[u8]) -> RunResult
     ended(Err(Refusal::WrongLength), f, 0)
 }
 
-fn ended(answer: Answer, flight: Flight, accepted: u64) -> RunResult
+// What a run hands back.
+pub fn ended(answer: Answer, flight: Flight, accepted: u64) -> RunResult
     ensures { result ≡ Run.ended answer flight accepted }
 {
     RunResult {

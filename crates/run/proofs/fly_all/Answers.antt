@@ -27,17 +27,6 @@ loop-i-init g c = (
   subst (FactorsMatchStep _) (sym c.begin-lags.ensures) (begin-of-its-step _ _ (of_bits-fits binary32 _)),
 )
 
-pub cached_lag_factors-lags-requires : goal.cached_lag_factors-lags-requires
-cached_lag_factors-lags-requires g c =
-    c.loop-i.invariant.4
-
-pub tick_inside-done-requires : goal.tick_inside-done-requires
-tick_inside-done-requires g c = record {
-  airframe_accepted = c.requires.airframe_accepted;
-  state_inside = c.loop-i.invariant.3;
-  lags_match = c.cached_lag_factors-lags.ensures.value;
-}
-
 pub loop-i-preserved : goal.loop-i-preserved
 loop-i-preserved g c =
     let a = c.args in

@@ -1,7 +1,7 @@
 -- `run::mirrored_pair` meets its contract. Assumes nothing.
 use mathlib.Core.List.{map, map-id}
 use mathlib.Core.Path.{◌∙◌, ◌≡◌, ap, sym}
-use native.Mathlib.Omega.{arith}
+use borrow.Author.Rules.{rules}
 use Rattle.airframe.specs.Reflection.{reflect_airframe}
 use Rattle.flight.specs.Reflection.{reflect_flight, reflect_tick}
 use Rattle.float.proofs.Representable.{field-representable}
@@ -21,7 +21,7 @@ returns c =
     let a = k.args in
     let s = a.trace.now in
     let ts = ticks_of s in
-    let bytes : Bytes s = λ i. omega (arith, k.shared_slice_known-1.given i) in
+    let bytes : Bytes s = λ i. search rules in
     -- what owning the state tells: the running values of its motors and lift rotors are 32-bit floats
     let held : Representable a.f = record {
       motors = record { motor = λ k l. field-representable a.f.motors _ k c.well_formed.1.0.1.1.1.1.1.1.1.1.1.1.1.1.1.1.1.0.1.1 };
