@@ -5,7 +5,7 @@ use borrow.Author.Tests.{eq-eqb, eqb-true, ltb-true}
 use denote.Floats.{is_true}
 use lib.Ieee.{Float}
 use lib.ListN.{length}
-use mathlib.Core.Bool.{false, true}
+use mathlib.Core.Bool.{true}
 use mathlib.Core.List.{List, map}
 use mathlib.Core.Path.{◌∙◌, ◌≡◌, ap, refl}
 use native.Mathlib.Omega.{arith}

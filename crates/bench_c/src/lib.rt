@@ -94,6 +94,7 @@ pub extern "C" fn bench_density(height_m: f32) -> f32
 const WRONG_LENGTH: u64 = 1;
 
 // A reply as one number: the answer's in the low four bits, its place above them.
+#[tactic(auto, unfolding(crate::specs::Library::reply_of))]
 fn reply(answer: Answer) -> u64
     ensures { result ≡ Library.reply_of answer }
 {
@@ -111,6 +112,7 @@ pub extern "C" fn bench_read_airframe(block: &[u8]) -> u64
 }
 
 // Reads an airframe block into an array, for many ticks; a refused block gives the zero airframe.
+#[tactic(auto, unfolding(crate::specs::Library::prepare))]
 #[unsafe(no_mangle)]
 pub extern "C" fn bench_prepare(block: &[u8], airframe: &mut [f32]) -> u64
     ensures { let o = Library.prepare block.now airframe.old in
@@ -128,6 +130,7 @@ pub extern "C" fn bench_prepare(block: &[u8], airframe: &mut [f32]) -> u64
 
 // Reads a state block into an array, with thrust scales of 1 and lift rotors at 0 where the block has none; a refused block gives
 // the zero state.
+#[tactic(auto, unfolding(crate::specs::Library::read_state))]
 #[unsafe(no_mangle)]
 pub extern "C" fn bench_read_state(block: &[u8], state: &mut [f32]) -> u64
     ensures { let o = Library.read_state block.now state.old in
@@ -144,6 +147,7 @@ pub extern "C" fn bench_read_state(block: &[u8], state: &mut [f32]) -> u64
 }
 
 // Writes a state's array into a block of 180 bytes.
+#[tactic(auto, unfolding(crate::specs::Library::write_state))]
 #[unsafe(no_mangle)]
 pub extern "C" fn bench_write_state(state: &[f32], block: &mut [u8]) -> u64
     ensures { let o = Library.write_state state.now block.old in
@@ -157,6 +161,7 @@ pub extern "C" fn bench_write_state(state: &[f32], block: &mut [u8]) -> u64
 }
 
 // Reads a tick block into an array; a refused block gives a tick of zeros.
+#[tactic(auto, unfolding(crate::specs::Library::read_tick))]
 #[unsafe(no_mangle)]
 pub extern "C" fn bench_read_tick(block: &[u8], tick: &mut [f32]) -> u64
     ensures { let o = Library.read_tick block.now tick.old in
@@ -173,6 +178,7 @@ pub extern "C" fn bench_read_tick(block: &[u8], tick: &mut [f32]) -> u64
 }
 
 // Writes a tick's array into a block of 80 bytes.
+#[tactic(auto, unfolding(crate::specs::Library::write_tick))]
 #[unsafe(no_mangle)]
 pub extern "C" fn bench_write_tick(tick: &[f32], block: &mut [u8]) -> u64
     ensures { let o = Library.write_tick tick.now block.old in
@@ -186,19 +192,17 @@ pub extern "C" fn bench_write_tick(tick: &[f32], block: &mut [u8]) -> u64
 }
 
 // Whether a tick's arrays have their lengths.
+#[tactic(auto, unfolding(crate::specs::Library::tick_lengths))]
 fn arrays_fit(state: usize, tick: usize, report: usize) -> bool
     ensures { result ≡ Library.tick_lengths state tick report }
 {
-    if state == arrays::STATE_NUMBERS {
-        if tick == arrays::TICK_NUMBERS {
-            return report == arrays::REPORT_NUMBERS;
-        }
-        return false;
-    }
-    false
+    state == arrays::STATE_NUMBERS
+        && tick == arrays::TICK_NUMBERS
+        && report == arrays::REPORT_NUMBERS
 }
 
 // The tick of an airframe that was read.
+#[tactic(auto, unfolding(crate::specs::Library::ticked_by, crate::specs::Library::ticked_unless))]
 fn ticked_by(read: AirframeRead, f: Flight, t: Tick) -> TickResult
     ensures { result ≡ Library.ticked_by read f t }
 {
@@ -226,6 +230,7 @@ fn ticked_prepared(airframe: &[f32], f: Flight, t: Tick) -> TickResult
 }
 
 // Alpha, beta and thrust into their array.
+#[tactic(auto, using(crate::proofs::Lengths::set_three), unfolding(crate::specs::Library::report_numbers))]
 fn put_report(array: &mut [f32], r: Report)
     requires { length array.old ≡ Library.report_numbers_count }
     ensures { array.new ≡ Library.report_numbers r }
@@ -235,19 +240,19 @@ fn put_report(array: &mut [f32], r: Report)
     array[2] = r.thrust_n;
 }
 
-// The state's numbers into its array, which a refused tick leaves as found.
-fn store_if_accepted(state: &mut [f32], done: TickResult)
+// The state that a tick or a run hands back into its array, which a refusal leaves as found.
+#[tactic(auto, unfolding(crate::specs::Promises::state_after))]
+fn store_if_accepted(state: &mut [f32], answer: Answer, flight: Flight)
     requires { length state.old ≡ state_numbers_count }
-    ensures { state.new ≡ Library.state_after_tick state.old done }
+    ensures { state.new ≡ Promises.state_after state.old answer flight }
 {
-    let report = done.report;
-    let answer = report.answer;
     if answer.is_ok() {
-        arrays::put_flight(state, done.flight);
+        arrays::put_flight(state, flight);
     }
 }
 
 // What a tick gave, into the caller's arrays.
+#[tactic(auto, using(crate::proofs::After::of_tick))]
 fn handed_back(done: TickResult, state: &mut [f32], report: &mut [f32]) -> u64
     requires state_length { length state.old ≡ state_numbers_count }
     requires report_length { length report.old ≡ Library.report_numbers_count }
@@ -255,13 +260,13 @@ fn handed_back(done: TickResult, state: &mut [f32], report: &mut [f32]) -> u64
         (result ≡ o.reply) × (state.new ≡ o.state) × (report.new ≡ o.report) }
 {
     let said = done.report;
-    let answer = said.answer;
-    store_if_accepted(state, done);
+    store_if_accepted(state, said.answer, done.flight);
     put_report(report, said);
-    reply(answer)
+    reply(said.answer)
 }
 
 // One tick of the state in its array, with the airframe as its block. Refused, it reports zeros and does not write the state.
+#[tactic(auto, using(crate::proofs::Lengths::arrays_fit), unfolding(crate::specs::Library::tick))]
 #[unsafe(no_mangle)]
 pub extern "C" fn bench_tick(
     airframe: &[u8],
@@ -282,6 +287,7 @@ pub extern "C" fn bench_tick(
 }
 
 // The same with the airframe prepared: its array of numbers, tested at each tick like any other.
+#[tactic(auto, using(crate::proofs::Lengths::arrays_fit), unfolding(crate::specs::Library::tick_prepared))]
 #[unsafe(no_mangle)]
 pub extern "C" fn bench_tick_prepared(
     airframe: &[f32],
@@ -292,29 +298,19 @@ pub extern "C" fn bench_tick_prepared(
     ensures { let o = Library.tick_prepared airframe.now state.old tick.now report.old in
         (result ≡ o.reply) × (state.new ≡ o.state) × (report.new ≡ o.report) }
 {
-    if airframe.len() == arrays::AIRFRAME_NUMBERS {
-        if arrays_fit(state.len(), tick.len(), report.len()) {
-            let f = arrays::flight_in(state);
-            let t = arrays::tick_in(tick);
-            let done = ticked_prepared(airframe, f, t);
-            return handed_back(done, state, report);
-        }
-        return WRONG_LENGTH;
+    if airframe.len() == arrays::AIRFRAME_NUMBERS
+        && arrays_fit(state.len(), tick.len(), report.len())
+    {
+        let f = arrays::flight_in(state);
+        let t = arrays::tick_in(tick);
+        let done = ticked_prepared(airframe, f, t);
+        return handed_back(done, state, report);
     }
     WRONG_LENGTH
 }
 
-fn ended(answer: Answer, flight: Flight) -> RunResult
-    ensures { result ≡ Run.ended answer flight 0 }
-{
-    RunResult {
-        answer,
-        flight,
-        accepted: 0,
-    }
-}
-
 // The run of an airframe that was read.
+#[tactic(auto, unfolding(crate::specs::Library::run_result_by))]
 fn run_by(read: AirframeRead, f: Flight, trace: &[u8]) -> RunResult
     ensures { result ≡ Library.run_result_by read f trace.now }
 {
@@ -323,9 +319,9 @@ fn run_by(read: AirframeRead, f: Flight, trace: &[u8]) -> RunResult
         if answer.is_ok() {
             return run::run(read.airframe, f, trace);
         }
-        return ended(answer, f);
+        return run::ended(answer, f, 0);
     }
-    ended(Err(Refusal::WrongLength), f)
+    run::ended(Err(Refusal::WrongLength), f, 0)
 }
 
 // A run that is refused, and its reflection.
@@ -333,8 +329,8 @@ fn ended_pair(answer: Answer, f: Flight) -> Pair
     ensures first_value { result.first ≡ Run.ended answer f 0 }
     ensures second_value { result.second ≡ Run.ended answer (reflect_flight f) 0 }
 {
-    let first = ended(answer, f);
-    let second = ended(answer, f.reflected());
+    let first = run::ended(answer, f, 0);
+    let second = run::ended(answer, f.reflected(), 0);
     Pair { first, second }
 }
 
@@ -352,18 +348,8 @@ fn pair_by(read: AirframeRead, f: Flight, trace: &[u8]) -> Pair
     ended_pair(Err(Refusal::WrongLength), f)
 }
 
-// A run's end state into its array, which a refused run leaves as found.
-fn put_end(state: &mut [f32], done: RunResult)
-    requires { length state.old ≡ state_numbers_count }
-    ensures { state.new ≡ Library.state_after_run state.old done }
-{
-    let answer = done.answer;
-    if answer.is_ok() {
-        arrays::put_flight(state, done.flight);
-    }
-}
-
 // Flies the trace from the state in its array, and counts the accepted ticks: a refused run leaves the state and counts none.
+#[tactic(auto, using(crate::proofs::After::of_run), unfolding(crate::specs::Library::run))]
 #[unsafe(no_mangle)]
 pub extern "C" fn bench_run(
     airframe: &[u8],
@@ -378,27 +364,25 @@ pub extern "C" fn bench_run(
     if lent == arrays::STATE_NUMBERS {
         let f = arrays::flight_in(state);
         let done = run_by(airframe_block::read_airframe(airframe), f, trace);
-        let answer = done.answer;
-        put_end(state, done);
+        store_if_accepted(state, done.answer, done.flight);
         *accepted = done.accepted;
-        return reply(answer);
+        return reply(done.answer);
     }
     *accepted = 0;
     WRONG_LENGTH
 }
 
 // Whether both arrays of a pair hold a state.
+#[tactic(auto, unfolding(crate::specs::Library::pair_lengths))]
 fn pair_fits(state: usize, reflected: usize) -> bool
     ensures { result ≡ Library.pair_lengths state reflected }
 {
-    if state == arrays::STATE_NUMBERS {
-        return reflected == arrays::STATE_NUMBERS;
-    }
-    false
+    state == arrays::STATE_NUMBERS && reflected == arrays::STATE_NUMBERS
 }
 
 // Flies the trace from the state in its array and its reflection from the reflected state, and counts the accepted ticks of both.
 // The end states go into both arrays; a refused run leaves them. Where it is done, what it leaves mirrors (demand 3).
+#[tactic(auto, using(crate::proofs::After::of_run, crate::proofs::Lengths::pair_fits), unfolding(crate::specs::Library::mirrored_pair))]
 #[unsafe(no_mangle)]
 pub extern "C" fn bench_mirrored_pair(
     airframe: &[u8],
@@ -420,12 +404,11 @@ pub extern "C" fn bench_mirrored_pair(
         let pair = pair_by(airframe_block::read_airframe(airframe), f, trace);
         let first = pair.first;
         let second = pair.second;
-        put_end(state, first);
-        put_end(reflected, second);
+        store_if_accepted(state, first.answer, first.flight);
+        store_if_accepted(reflected, second.answer, second.flight);
         *accepted = first.accepted;
         *accepted_reflected = second.accepted;
-        let answer = first.answer;
-        return reply(answer);
+        return reply(first.answer);
     }
     *accepted = 0;
     *accepted_reflected = 0;

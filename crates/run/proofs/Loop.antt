@@ -23,7 +23,6 @@ use Rattle.trace.specs.Trace.{ticks_of}
 use Rattle.wing.proofs.Passed.{Passed, tick-cases}
 use Rattle.wing.specs.Tick.{refused_of, tick_of, wind_usable}
 use Rattle.wing.specs.declared.TickResult.{TickResult}
-use Rattle.run.specs.Promises.{reflected_if}
 use Rattle.run.specs.Run.{Progress, ended, one_if_done, progressed, run_result_of, run_result_over, run_from, run_of}
 
 -- a tick that cannot pass every test leaves state and count
@@ -65,18 +64,7 @@ progress a p t u k n h g m =
     let q : k ≡ tick_of a p.flight t = g ∙ ap (tick_of a p.flight) h in
     ap₂ (λ (x : TickResult) (j : ℕ). record { flight = x.flight; accepted = p.accepted + j }) q (m ∙ ap (λ (x : TickResult). one_if_done x.report.answer) q)
 
--- ---- the ticks as they are, and each one reflected
-pub plain-track : (ts : List Tick) → map (reflected_if false) ts ≡ ts
-unfolding reflected_if
-plain-track [] = refl
-plain-track (t ∷ ts) = ap (λ (us : List Tick). t ∷ us) (plain-track ts)
-
-pub reflected-track : (ts : List Tick) → map (reflected_if true) ts ≡ map reflect_tick ts
-unfolding reflected_if
-reflected-track [] = refl
-reflected-track (t ∷ ts) = ap (λ (us : List Tick). reflect_tick t ∷ us) (reflected-track ts)
-
--- so the run over the reflected bytes is the run over the reflected ticks
+-- the run over the reflected bytes is the run over the reflected ticks
 pub reflected-run : (a : Airframe) (f : Flight) (s : List ℕ) → Bytes s → run_result_of a f (reflect_trace s) ≡ run_result_over a f s (map reflect_tick (ticks_of s))
 unfolding run_result_of run_result_over
 reflected-run a f s h =

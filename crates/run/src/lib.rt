@@ -1,10 +1,11 @@
 // The run over a trace of ticks, and the mirrored pair of runs.
 #![tactic(auto)]
 
-ghost use Rattle.std.specs.Prelude.{◌≡◌, ◌<◌, ◌≤◌, true};
+ghost use Rattle.std.specs.Prelude.{◌≡◌, ◌≤◌, true};
 ghost use Rattle.airframe.specs.Acceptance.{refused_place};
 ghost use Rattle.flight.specs.Envelope.{is_inside};
-ghost use Rattle.trace.specs.Trace.{tick_at, tick_count};
+ghost use Rattle.flight.specs.Reflection.{reflect_tick};
+ghost use Rattle.flight.specs.declared.Tick.{Tick};
 ghost use Rattle.run.specs.Promises as Promises;
 ghost use Rattle.run.specs.Run as Run;
 ghost use Rattle.run.specs.Mirrored as Mirrored;
@@ -33,26 +34,56 @@ pub struct Pair {
 pub fn run(a: Airframe, f: Flight, trace: &[u8]) -> RunResult
     ensures { result ≡ Run.run_result_of a f trace.now }
 {
-    run_track(a, f, trace, false)
+    run_track::<AsFlown>(a, f, trace)
 }
 
 // Flies the trace and, from the reflected state with the reflected airframe, its reflection.
 pub fn mirrored_pair(a: Airframe, f: Flight, trace: &[u8]) -> Pair
     ensures { Mirrored.PairPromise a f trace.now result }
 {
-    let first = run_track(a, f, trace, false);
-    let second = run_track(a.reflected(), f.reflected(), trace, true);
+    let first = run_track::<AsFlown>(a, f, trace);
+    let second = run_track::<Reflected>(a.reflected(), f.reflected(), trace);
     Pair { first, second }
 }
 
-// The run over the trace's track, or over the reflected track.
-fn run_track(a: Airframe, f: Flight, trace: &[u8], reflect: bool) -> RunResult
-    ensures { result ≡ Promises.track_result reflect a f trace.now }
+// A track of a trace's ticks: how a run takes each one.
+trait Track {
+    ghost tick: { Tick → Tick };
+
+    fn take(t: Tick) -> Tick
+        ensures { result ≡ tick t };
+}
+
+// The ticks as they stand in the trace.
+struct AsFlown;
+
+impl Track for AsFlown {
+    ghost tick = { λ t. t };
+
+    fn take(t: Tick) -> Tick {
+        t
+    }
+}
+
+// The ticks with left and right exchanged.
+struct Reflected;
+
+impl Track for Reflected {
+    ghost tick = { reflect_tick };
+
+    fn take(t: Tick) -> Tick {
+        t.reflected()
+    }
+}
+
+// The run over a track of the trace's ticks.
+fn run_track<T: Track>(a: Airframe, f: Flight, trace: &[u8]) -> RunResult
+    ensures { result ≡ Promises.track_result T.tick a f trace.now }
 {
     if trace::is_whole(trace) {
         if a.refused_place().is_none() {
             if f.is_inside() {
-                return fly_all(a, f, trace, reflect);
+                return fly_all::<T>(a, f, trace);
             }
             return ended(Ok(()), f, 0);
         }
@@ -61,7 +92,8 @@ fn run_track(a: Airframe, f: Flight, trace: &[u8], reflect: bool) -> RunResult
     ended(Err(Refusal::WrongLength), f, 0)
 }
 
-fn ended(answer: Answer, flight: Flight, accepted: u64) -> RunResult
+// What a run hands back.
+pub fn ended(answer: Answer, flight: Flight, accepted: u64) -> RunResult
     ensures { result ≡ Run.ended answer flight accepted }
 {
     RunResult {
@@ -73,10 +105,10 @@ fn ended(answer: Answer, flight: Flight, accepted: u64) -> RunResult
 
 // The ticks one after the other, of an airframe and a state that are accepted: neither is tested again, since each state that is
 // kept was tested as the next one.
-fn fly_all(a: Airframe, f: Flight, trace: &[u8], reflect: bool) -> RunResult
+fn fly_all<T: Track>(a: Airframe, f: Flight, trace: &[u8]) -> RunResult
     requires airframe_accepted { refused_place a ≡ 0 }
     requires state_inside { is_inside f ≡ true }
-    ensures { result ≡ Promises.track_flown reflect a f trace.now }
+    ensures { result ≡ Promises.track_flown T.tick a f trace.now }
 {
     let count = trace::tick_count(trace);
     let mut flight = f;
@@ -84,7 +116,7 @@ fn fly_all(a: Airframe, f: Flight, trace: &[u8], reflect: bool) -> RunResult
     let mut lags = wing::begin(a, 0.01, &tables.powers);
     let mut accepted = 0u64;
     for i in 0..count {
-        let t = tick_at(trace, i, reflect);
+        let t = T::take(trace::tick_at(trace, i));
         lags = wing::cached_lag_factors(a, lags, t.step_s, &tables.powers);
         let done = wing::tick_inside(a, flight, t, lags, &tables);
         let report = done.report;
@@ -93,18 +125,6 @@ fn fly_all(a: Airframe, f: Flight, trace: &[u8], reflect: bool) -> RunResult
         flight = done.flight;
     }
     ended(Ok(()), flight, accepted)
-}
-
-// The trace's tick i, as it is or reflected.
-fn tick_at(trace: &[u8], i: usize, reflect: bool) -> Tick
-    requires { i < tick_count trace.now }
-    ensures { result ≡ Promises.reflected_if reflect (tick_at trace.now i) }
-{
-    let t = trace::tick_at(trace, i);
-    if reflect {
-        return t.reflected();
-    }
-    t
 }
 
 fn one_if_done(answer: Answer) -> u64

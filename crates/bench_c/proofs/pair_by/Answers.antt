@@ -10,18 +10,16 @@ use Rattle.bench_c.proofs.pair_by.Goals as goal
 pub returns-then-is_ok : goal.returns-then-is_ok
 unfolding run_result_by reflected_by
 returns-then-is_ok c =
-    let k = c in
     let d = done-is-ok _ ∙ sym c.is_ok.ensures.value ∙ c.if-is_ok.true in
-    let w = sym k.is_whole.ensures ∙ k.if-is_whole.true in
+    let w = sym c.is_whole.ensures ∙ c.if-is_whole.true in
     let p = c.mirrored_pair.ensures in
     record { first = p.first ∙ simp (d, w); second = p.second ∙ simp (d, w); ends = p.ends; theorem = λ z. p.demand3 }
 
 pub returns-then-is_whole : goal.returns-then-is_whole
 unfolding run_result_by reflected_by
 returns-then-is_whole c =
-    let k = c in
     let d = done-is-ok _ ∙ sym c.is_ok.ensures.value ∙ c.if-is_ok.false in
-    let w = sym k.is_whole.ensures ∙ k.if-is_whole.true in
+    let w = sym c.is_whole.ensures ∙ c.if-is_whole.true in
     let p = c.ended_pair.ensures in
     record {
       first = p.first_value ∙ simp (d, w);

@@ -1,25 +1,16 @@
--- `bench_c::ticked_prepared` meets its contract: the refused place and the lags' constants that are read off the numbers are the
--- airframe's own. Assumes nothing.
+-- `bench_c::ticked_prepared` meets its contract: the refused place that is read off the numbers is the airframe's own. Assumes nothing.
 use Prim.Native.Nat.{ℕ}
 use Rattle.airframe.specs.Acceptance.{refused_place}
 use Rattle.answers.specs.declared.Refusal.TheVariants.{NumberOutOfRange}
 use Rattle.arrays.specs.Airframe.{airframe_in}
-use Rattle.arrays.specs.Flight.{flight_in}
 use Rattle.ordered.proofs.Ordered.{none-zero, some-eqb, some-number}
 use Rattle.wing.specs.Tick.{refused_of, tick_of, tick_with}
 use mathlib.Core.Path.{◌∙◌, ap, sym}
 use Rattle.bench_c.proofs.ticked_prepared.Goals as goal
 
-pub tick_accepted-requires : goal.tick_accepted-requires
-tick_accepted-requires c =
-    let a = c.airframe_in-a.ensures in
-    record {
-      airframe_accepted = ap refused_place a ∙ none-zero _ (sym c.refused_place.ensures ∙ c.in-None.is);
-      lags_match = simp (c.lag_factors_from-lags.ensures, c.lag_constants_in-constants.ensures, a);
-    }
-
-pub returns-in-None : goal.returns-in-None
-returns-in-None c = simp (c.tick_accepted.ensures, c.airframe_in-a.ensures)
+pub tick_accepted-requires-clause-airframe_accepted : goal.tick_accepted-requires-clause-airframe_accepted
+tick_accepted-requires-clause-airframe_accepted c =
+    ap refused_place c.airframe_in-a.ensures ∙ none-zero _ (sym c.refused_place.ensures ∙ c.in-None.is)
 
 pub returns-in-Some : goal.returns-in-Some
 unfolding tick_of tick_with

@@ -13,13 +13,13 @@ use Rattle.wing.proofs.Steps.{begin-of-its-step}
 use Rattle.wing.specs.Promises.{FactorsMatchStep}
 use Rattle.wing.specs.declared.TickResult.{TickResult}
 use Rattle.run.proofs.Loop.{progress, stays-inside}
-use Rattle.run.specs.Promises.{reflected_if, track_flown, track_on}
+use Rattle.run.specs.Promises.{track_flown, track_on}
 use Rattle.run.specs.Run.{Progress, ended, progressed, run_from, run_of}
 use Rattle.run.proofs.fly_all.Goals as goal
 
 pub loop-i-init : goal.loop-i-init
 unfolding ticks_from
-loop-i-init c = (
+loop-i-init g c = (
   search rules,
   c.tick_count-count.ensures,
   refl,
@@ -27,53 +27,32 @@ loop-i-init c = (
   subst (FactorsMatchStep _) (sym c.begin-lags.ensures) (begin-of-its-step _ _ (of_bits-fits binary32 _)),
 )
 
-pub cached_lag_factors-lags-requires : goal.cached_lag_factors-lags-requires
-cached_lag_factors-lags-requires c =
-    let s = c in
-    s.loop-i.invariant.4
-
-pub tick_inside-done-requires : goal.tick_inside-done-requires
-tick_inside-done-requires c =
-    let s = c in
-    let begun = s.before.before.before in
-    let start = begun.before.before.before.before in
-    let factors = c.cached_lag_factors-lags.ensures.value in
-    record {
-      airframe_accepted = start.requires.airframe_accepted;
-      state_inside = s.loop-i.invariant.3;
-      lags_match = factors;
-    }
-
 pub loop-i-preserved : goal.loop-i-preserved
-loop-i-preserved c =
-    let s = c in
-    let a = s.args in
-    let i = s.loop-i.i in
-    let p : Progress = record { flight = s.loop-i.flight; accepted = s.loop-i.accepted } in
+loop-i-preserved g c =
+    let a = c.args in
+    let kept = c.loop-i.invariant in
+    let p : Progress = record { flight = c.loop-i.flight; accepted = c.loop-i.accepted } in
     let start : Progress = record { flight = a.f; accepted = 0 } in
-    let on = track_on a.reflect a.a in
-    let k = c in
-    let t = k.before.before.before.before.before in
-    let n = c.one_if_done-accepted in (
+    let on = track_on g.T.Track.tick a.a in
+    let taken = c.take-t.ensures ∙ ap g.T.Track.tick c.tick_at.ensures in (
       search rules,
-      s.loop-i.invariant.1,
-      progress a.a p _ t.tick_at-t.result k.tick_inside-done.result n.result t.tick_at-t.ensures k.tick_inside-done.ensures n.ensures.value
-          ∙ ap (λ (q : Progress). on q (tick_at a.trace.now i)) s.loop-i.invariant.2
-          ∙ after_more on start a.trace.now i,
-      ap (λ (x : TickResult). is_inside x.flight) k.tick_inside-done.ensures
-          ∙ stays-inside a.a s.loop-i.flight t.tick_at-t.result s.loop-i.invariant.3,
-      k.cached_lag_factors-lags.ensures.matches_step,
+      kept.1,
+      progress a.a p _ c.take-t.result c.tick_inside-done.result c.one_if_done-accepted.result taken
+          c.tick_inside-done.ensures c.one_if_done-accepted.ensures.value
+          ∙ ap (λ (q : Progress). on q (tick_at a.trace.now c.loop-i.i)) kept.2
+          ∙ after_more on start a.trace.now c.loop-i.i,
+      ap (λ (x : TickResult). is_inside x.flight) c.tick_inside-done.ensures
+          ∙ stays-inside a.a c.loop-i.flight c.take-t.result kept.3,
+      c.cached_lag_factors-lags.ensures.matches_step,
     )
 
 pub returns : goal.returns
 unfolding track_flown run_of run_from
-returns c =
-    let s = c in
-    let a = s.args in
+returns g c =
+    let a = c.args in
     let start : Progress = record { flight = a.f; accepted = 0 } in
-    let trace = a.trace.now in
     c.ended.ensures
     ∙ ap (λ (p : Progress). ended done p.flight p.accepted)
-    (s.loop-i.invariant.2
-    ∙ after-all (track_on a.reflect a.a) start trace s.loop-i.i (omega arith) (omega (arith, c.loop-i-test.false))
-    ∙ sym (foldl-map (reflected_if a.reflect) (progressed a.a) (ticks_of trace) start))
+    (c.loop-i.invariant.2
+    ∙ after-all (track_on g.T.Track.tick a.a) start a.trace.now c.loop-i.i (omega arith) (omega (arith, c.loop-i-test.false))
+    ∙ sym (foldl-map g.T.Track.tick (progressed a.a) (ticks_of a.trace.now) start))
