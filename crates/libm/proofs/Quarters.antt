@@ -9,7 +9,7 @@ use lib.Ieee.Scale.{finite}
 use lib.IntN.{negsuc, pos, ℤ}
 use lib.Signed.{le_z}
 use mathlib.Core.Bool.{◌&&◌, Bool, cond, false, true}
-use Rattle.std.specs.Prelude.{Option, Some, None}
+use Rattle.std.specs.Prelude.{Some, None}
 use Rattle.std.proofs.lemmas.Option.{none-some, same_Some}
 use mathlib.Core.Path.{◌∙◌, ◌≡◌, ap, refl, subst, sym}
 use native.Mathlib.Omega.{arith}
