@@ -1,5 +1,5 @@
 -- Floats that the machine's == calls equal are one number, as `num` says: a value of the format is written in one way. Assumes nothing.
-use Rattle.std.proofs.Common.{◌≡◌, ℕ, zero, suc, ◌*◌, Bool, true, false, ◌&&◌, ◌||◌, T, eqb, ℤ, sym, refl, ap, ◌∙◌, true≢false, lt_irrefl, zero-lt-suc, mul-pos, zero-mul, suc-ne-zero, eqb→eq}
+use Rattle.std.proofs.Common.{◌≡◌, ℕ, zero, suc, ◌*◌, Bool, true, false, ◌&&◌, ◌||◌, T, eqb, ℤ, pos, sym, refl, ap, ◌∙◌, subst, true≢false, lt_irrefl, zero-lt-suc, mul-pos, zero-mul, suc-ne-zero, eqb→eq}
 use lib.Ieee.{Float, Format, down, eq, fin, fits, inf, nan, up}
 use lib.Ieee.Fits.{and_l, and_r, down_pos, up_pos}
 use lib.Ieee.Scale.{round_same}
@@ -26,6 +26,11 @@ zero-fits f s e p = p
 zeros-same : (f : Format) (s t : Bool) (e d : ℤ) → T (fits f (fin s zero e)) → T (fits f (fin t zero d)) → num (fin t zero d) ≡ num (fin s zero e)
 unfolding num
 zeros-same f s t e d p q = sym (same_sign f false zero zero e d (zero-fits f s e p) (zero-fits f t d q) (simp zero-mul))
+
+-- the one zero of the sign +
+pub one-zero : (f : Format) (e : ℤ) → fits f (fin false zero e) ≡ true → fin false zero e ≡ fin false zero (pos 0)
+unfolding fits
+one-zero f e p = same_sign f false zero zero e (pos 0) (subst T (sym p) tt) tt (simp zero-mul)
 
 -- equal values, and one sign or a value of 0
 unlike-signs : (f : Format) (s t : Bool) (m n : ℕ) (e d : ℤ) → T (fits f (fin s m e)) → T (fits f (fin t n d)) → m * up e * down d ≡ n * up d * down e

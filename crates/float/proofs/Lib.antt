@@ -17,3 +17,5 @@ pub mod Integers
 pub mod Differences
 pub mod Bounds
 pub mod Representable
+mod FourBytes
+mod Magnitude

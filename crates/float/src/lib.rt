@@ -9,7 +9,7 @@ ghost use Rattle.float.specs.Promises.{whole_part};
 ghost use Rattle.float.specs.Notation as Notation;
 ghost use Rattle.float.specs.Interval as Interval;
 
-// The float with these bits; any NaN's bits give a NaN.
+// The float with these bits; any NaN's bits give a NaN. (std's `from_bits` takes no NaN's bits.)
 pub fn from_bits(b: u32) -> f32
     ensures { result ≡ Ieee.of_bits binary32 b }
 {
@@ -20,23 +20,11 @@ pub fn from_bits(b: u32) -> f32
     }
 }
 
-// The bits of x; 7FC00000 for a NaN.
+// The bits of x; 7FC00000 for a NaN. (std's `to_bits` takes no NaN.)
 pub fn to_bits(x: f32) -> u32
     ensures { result ≡ Ieee.to_bits binary32 x }
 {
     if x != x { 0x7fc0_0000 } else { f32::to_bits(x) }
-}
-
-fn wide(b: u8) -> u32
-    ensures { (result ≡ b) × (result < 256) }
-{
-    b as u32
-}
-
-fn low_byte(n: u32) -> u8
-    ensures { result ≡ n % 256 }
-{
-    (n % 256) as u8
 }
 
 // The float whose four bytes stand at i in s, big-endian.
@@ -44,11 +32,7 @@ pub fn read(s: &[u8], i: usize) -> f32
     requires { i + 4 ≤ length s.now }
     ensures { result ≡ Ieee.of_bits binary32 (word s.now i) }
 {
-    let a = wide(s[i]);
-    let b = wide(s[i + 1]);
-    let c = wide(s[i + 2]);
-    let d = wide(s[i + 3]);
-    from_bits(a * 16777216 + b * 65536 + c * 256 + d)
+    from_bits(u32::from_be_bytes([s[i], s[i + 1], s[i + 2], s[i + 3]]))
 }
 
 // Puts the four bytes of x at i in s, big-endian.
@@ -56,11 +40,8 @@ pub fn write(s: &mut [u8], i: usize, x: f32)
     requires { i + 4 ≤ length s.old }
     ensures { s.new ≡ put s.old i (Ieee.to_bits binary32 x) }
 {
-    let b = to_bits(x);
-    s[i] = low_byte(b / 16777216);
-    s[i + 1] = low_byte(b / 65536);
-    s[i + 2] = low_byte(b / 256);
-    s[i + 3] = low_byte(b);
+    let bytes = to_bits(x).to_be_bytes();
+    s[i..i + 4].copy_from_slice(&bytes);
 }
 
 // x without its fraction, for an x below 2^24 in size.
@@ -73,39 +54,35 @@ pub fn truncated(x: f32) -> i64
     std::num::truncating_f32_to_i64(x)
 }
 
-// x without its fraction, as a float; 0 where x is a NaN or not below 2^24 in size.
+// x without its fraction, as a float; 0 where x is a NaN or not below 2^24 in size. (std's `trunc` leaves these, and -0, as they are.)
 pub fn whole_part(x: f32) -> f32
     ensures { result ≡ whole_part x }
 {
-    if x > -16777216.0 {
-        if x < 16777216.0 {
-            return truncated(x) as f32;
-        }
+    if x > -16777216.0 && x < 16777216.0 {
+        truncated(x) as f32
+    } else {
+        0.0
     }
-    0.0
 }
 
 // The size of x, |x|.
+#[tactic(auto, using(crate::proofs::Magnitude::size_held))]
 pub fn abs(x: f32) -> f32
     ensures { result ≡ Notation.abs x }
 {
-    if x < 0.0 {
-        return -x;
-    }
-    if x == 0.0 {
-        return 0.0;
-    }
-    x
+    x.abs()
 }
 
-// x where it is above 0, else +0, also for a NaN.
+// x where it is above 0, else +0, also for a NaN. (std's `max` leaves open which zero it gives.)
+#[tactic(auto, unfolding(crate::specs::Notation::at_least_zero))]
 pub fn at_least_zero(x: f32) -> f32
     ensures { result ≡ Notation.at_least_zero x }
 {
     if x > 0.0 { x } else { 0.0 }
 }
 
-// x brought into lo..hi; a NaN stays.
+// x brought into lo..hi; a NaN stays. (std's `clamp` takes only a lo that is at most hi.)
+#[tactic(auto, unfolding(crate::specs::Notation::clamp))]
 pub fn clamp(x: f32, lo: f32, hi: f32) -> f32
     ensures { result ≡ Notation.clamp lo hi x }
 {
@@ -119,11 +96,9 @@ pub fn clamp(x: f32, lo: f32, hi: f32) -> f32
 }
 
 // Whether x is a number from lo to hi, both included; a NaN is not.
+#[tactic(auto, unfolding(crate::specs::Interval::inside))]
 pub fn inside(x: f32, lo: f32, hi: f32) -> bool
     ensures { result ≡ Interval.inside lo hi x }
 {
-    if lo <= x {
-        return x <= hi;
-    }
-    false
+    lo <= x && x <= hi
 }

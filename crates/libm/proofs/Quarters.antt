@@ -4,22 +4,25 @@
 use Prim.Native.Nat as Nat
 use Prim.Native.Nat.{◌≤◌, suc, ℕ}
 use lib.Dec.{T, leb→le}
-use lib.Ieee.{Float, add, binary32, eq, fin, le, lt, mul, neg, of_int, round, sub, to_signed}
+use lib.Ieee.{Float, add, binary32, eq, fin, le, lt, mul, nan, neg, of_int, round, sub, to_signed}
 use lib.Ieee.Scale.{finite}
 use lib.IntN.{negsuc, pos, ℤ}
 use lib.Signed.{le_z}
-use mathlib.Core.Bool.{cond, false, true}
-use mathlib.Core.Path.{◌≡◌, refl, subst, sym}
+use mathlib.Core.Bool.{◌&&◌, Bool, cond, false, true}
+use Rattle.std.specs.Prelude.{Some, None}
+use Rattle.std.proofs.lemmas.Option.{none-some, same_Some}
+use mathlib.Core.Path.{◌∙◌, ◌≡◌, ap, refl, subst, sym}
 use native.Mathlib.Omega.{arith}
 use Rattle.float.proofs.Interval.{scale_in, sub_in, within-finite, within_wider}
 use Rattle.float.proofs.Order.{le-lt, le-trans-float, lt-le}
 use Rattle.float.proofs.Rounding.{add-mono-l}
 use Rattle.float.proofs.Tests.{either}
 use Rattle.float.proofs.Truncation.{to_signed-mono, whole_is}
-use Rattle.float.specs.Interval.{Within}
+use Rattle.float.specs.Interval.{Within, inside}
 use Rattle.float.specs.Notation.{half, zero}
-use Rattle.libm.specs.Promises.{by_quarters, cos_by, sin_by, whole_quarters}
+use Rattle.libm.specs.Promises.{by_quarters, cos_by, quadrant_after, quadrant_and_rest, sin_by, whole_quarters}
 use Rattle.libm.specs.Trig.{by_quadrant, cos_at, cos_of, farthest, quadrant, quarter_turn, quarters, rest_of, sin_at, sin_of}
+use Rattle.libm.specs.declared.trig.Turned.{Turned}
 
 -- what is cut lies from -3.5 to 3.5
 abbrev cut_low : Float
@@ -86,8 +89,8 @@ quarters-held x w =
     (le-lt (aside x) cut_high (fin false 1 (pos 24)) f tt tt v.at_most (unfold lt in tt))
 
 -- each of the seven in its quadrant
-quarters-quadrant : (q : ℤ) (i ii iii iv : Float) → Few q → by_quarters (of_int binary32 q) i ii iii iv ≡ by_quadrant q i ii iii iv
-unfolding by_quarters by_quadrant quadrant of_int round eq neg
+quarters-quadrant : (q : ℤ) (i ii iii iv : Float) → Few q → by_quarters (quadrant_after (of_int binary32 q)) i ii iii iv ≡ by_quadrant q i ii iii iv
+unfolding by_quarters quadrant_after by_quadrant quadrant of_int round eq neg
 quarters-quadrant (pos Nat.zero) i ii iii iv f = refl
 quarters-quadrant (pos (suc Nat.zero)) i ii iii iv f = refl
 quarters-quadrant (pos (suc (suc Nat.zero))) i ii iii iv f = refl
@@ -104,14 +107,54 @@ quarters-quadrant (negsuc (suc (suc (suc n)))) i ii iii iv f = absurd (none n (l
     none : (n : ℕ) → suc (suc (suc n)) ≤ 2 → ⊥
     none n h = omega arith
 
--- ---- sin and cos of an x within size 4
+-- ---- sin and cos of an x within size 4, by its quadrant and its rest
 within : (x : Float) → le nearest x ≡ true → le x farthest ≡ true → Within nearest farthest x
 within x a b = record { at_least = subst T (sym a) tt; at_most = subst T (sym b) tt }
 
-pub sin-held : (x : Float) → le nearest x ≡ true → le x farthest ≡ true → sin_by (whole_quarters x) (rest_of x (whole_quarters x)) ≡ sin_of x
-unfolding sin_of sin_by sin_at
-sin-held x a b = rw (a, b, quarters-held x (within x a b)) (quarters-quadrant (quarters x) _ _ _ _ (quarters-few x (within x a b)))
+abbrev of_x : Float → Turned
+of_x x = record { quadrant = quadrant_after (whole_quarters x); rest = rest_of x (whole_quarters x) }
 
-pub cos-held : (x : Float) → le nearest x ≡ true → le x farthest ≡ true → cos_by (whole_quarters x) (rest_of x (whole_quarters x)) ≡ cos_of x
+sin-within : (x : Float) → le nearest x ≡ true → le x farthest ≡ true → sin_by (of_x x) ≡ sin_of x
+unfolding sin_of sin_by sin_at
+sin-within x a b = rw (a, b, quarters-held x (within x a b)) (quarters-quadrant (quarters x) _ _ _ _ (quarters-few x (within x a b)))
+
+cos-within : (x : Float) → le nearest x ≡ true → le x farthest ≡ true → cos_by (of_x x) ≡ cos_of x
 unfolding cos_of cos_by cos_at
-cos-held x a b = rw (a, b, quarters-held x (within x a b)) (quarters-quadrant (quarters x) _ _ _ _ (quarters-few x (within x a b)))
+cos-within x a b = rw (a, b, quarters-held x (within x a b)) (quarters-quadrant (quarters x) _ _ _ _ (quarters-few x (within x a b)))
+
+-- what is turned lies within, and what is not lies beyond
+record Inside (x : Float) (t : Turned) : Type 0 where
+  low : le nearest x ≡ true
+  high : le x farthest ≡ true
+  is : of_x x ≡ t
+
+inside-turned : (x : Float) (t : Turned) → quadrant_and_rest x ≡ Some t → Inside x t
+unfolding quadrant_and_rest inside
+inside-turned x t e = go (le nearest x) (le x farthest) refl refl e
+  where
+    go : (a b : Bool) → le nearest x ≡ a → le x farthest ≡ b → cond (a && b) (Some (of_x x)) None ≡ Some t → Inside x t
+    go true true p q e = record { low = p; high = q; is = same_Some _ _ e }
+    go true false p q e = absurd (none-some _ e)
+    go false b p q e = absurd (none-some _ e)
+
+beyond : (x v : Float) → quadrant_and_rest x ≡ None → cond (le nearest x && le x farthest) v nan ≡ nan
+unfolding quadrant_and_rest inside
+beyond x v e = go (le nearest x && le x farthest) e
+  where
+    go : (a : Bool) → cond a (Some (of_x x)) None ≡ None → cond a v nan ≡ nan
+    go true e = absurd (none-some _ (sym e))
+    go false e = refl
+
+pub sin_held : (x : Float) (t : Turned) → quadrant_and_rest x ≡ Some t → sin_by t ≡ sin_of x
+sin_held x t e = let i = inside-turned x t e in sym (ap sin_by i.is) ∙ sin-within x i.low i.high
+
+pub cos_held : (x : Float) (t : Turned) → quadrant_and_rest x ≡ Some t → cos_by t ≡ cos_of x
+cos_held x t e = let i = inside-turned x t e in sym (ap cos_by i.is) ∙ cos-within x i.low i.high
+
+pub sin_beyond : (x : Float) → quadrant_and_rest x ≡ None → sin_of x ≡ nan
+unfolding sin_of
+sin_beyond x e = beyond x _ e
+
+pub cos_beyond : (x : Float) → quadrant_and_rest x ≡ None → cos_of x ≡ nan
+unfolding cos_of
+cos_beyond x e = beyond x _ e

@@ -8,6 +8,7 @@ use crate::log::logf;
 use crate::powers;
 use crate::powers::PowerTable;
 
+#[tactic(auto, unfolding(crate::specs::Pow::at_most_one))]
 fn at_most_one(x: f32) -> f32
     ensures { result ≡ Pow.at_most_one x }
 {

@@ -23,8 +23,5 @@ truncating_f32_to_i64-requires-clause-lower_bound c = (of c).low
 pub truncating_f32_to_i64-requires-clause-upper_bound : goal.truncating_f32_to_i64-requires-clause-upper_bound
 truncating_f32_to_i64-requires-clause-upper_bound c = (of c).high
 
-pub returns-clause-value : goal.returns-clause-value
-returns-clause-value c = back c
-
 pub returns-clause-exact : goal.returns-clause-exact
 returns-clause-exact c = subst (λ (z : ℤ). T (in_float binary32 z)) (sym (back c)) (small c.args.x c.requires.lower_bound c.requires.upper_bound).whole

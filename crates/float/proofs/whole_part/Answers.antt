@@ -4,6 +4,7 @@ use lib.Ieee.{Float, fin, binary32, of_bits, neg, lt, of_int, to_signed, in_floa
 use mir.ValLaws.{to_z-of_z}
 use Rattle.float.specs.Promises.{whole_part}
 use Rattle.float.proofs.whole_part.Goals as goal
+use Rattle.float.proofs.whole_part.Goals.{else-x-via-then-x+else-x-2, else-x-via-else-x}
 
 -- `whole_part` by the answers of its two tests
 part : (x : Float) (a b : Bool) → lt (fin true 1 (pos 24)) x ≡ a → lt x (fin false 1 (pos 24)) ≡ b
@@ -32,10 +33,10 @@ returns-then-x-2 c =
     ap (of_int binary32) (read c ∙ c.truncated.ensures.value)
     ∙ sym (part c.args.x true true c.if-x.true c.if-x-2.true)
 
-pub returns-else-x-2 : goal.returns-else-x-2
-unfolding of_bits neg
-returns-else-x-2 c = sym (part c.args.x true false c.if-x.true c.if-x-2.false)
-
 pub returns-else-x : goal.returns-else-x
 unfolding of_bits neg
-returns-else-x c = sym (part c.args.x false (lt c.args.x (fin false 1 (pos 24))) c.if-x.false refl)
+returns-else-x c =
+    elim c.else-x.branch [
+      | else-x-via-then-x+else-x-2 w ↦ sym (part c.args.x true false w.if-x.true w.if-x-2.false)
+      | else-x-via-else-x w ↦ sym (part c.args.x false (lt c.args.x (fin false 1 (pos 24))) w.if-x.false refl)
+    ]

@@ -4,18 +4,12 @@ use lib.Ieee.{binary32, nan_bits, of_bits}
 use lib.Ieee.Bits.{of_bits-to_bits}
 use mathlib.Core.Path.{◌∙◌, ap, subst, sym}
 use Rattle.float.proofs.Patterns.{zero_by_zero}
-use Rattle.libm.proofs.Signs.{above_no_nan, bits_pos, rest-has-no-ln, top-is-infinite, zero-has-ln}
+use Rattle.libm.proofs.Signs.{bits_pos, rest-has-no-ln, top-is-infinite, zero-has-ln}
 use Rattle.libm.specs.Log.{ln_of}
 use Rattle.libm.proofs.log.logf.Goals as goal
 
-pub float_to_bits-b : goal.float_to_bits-b
-float_to_bits-b c = above_no_nan c.args.v c.if-v.true
-
 pub positive-requires-clause-above_zero : goal.positive-requires-clause-above_zero
 positive-requires-clause-above_zero c = bits_pos c.args.v (subst T (sym c.well_formed.0.1) tt) c.if-v.true
-
-pub positive-requires-clause-finite : goal.positive-requires-clause-finite
-positive-requires-clause-finite c = c.if-b-lt2139095040.true
 
 pub returns-then-b-lt2139095040 : goal.returns-then-b-lt2139095040
 returns-then-b-lt2139095040 c = c.positive.ensures ∙ ap ln_of (of_bits-to_bits binary32 c.args.v (subst T (sym c.well_formed.0.1) tt))

@@ -5,7 +5,7 @@ use lib.IntN.{◌-ℤ◌, pos, ℤ}
 use mathlib.Core.Path.{◌∙◌, ◌≡◌, ap, subst, sym}
 use native.Mathlib.Omega.{arith}
 use mir.Syntax.{w64}
-use mir.Val.{SFits, of_z, to_z}
+use mir.Val.{of_z, to_z}
 use mir.ValLaws.{to_z-of_z, to_z_pos}
 use Rattle.float.proofs.Differences.{sub-minus}
 use Rattle.float.proofs.Patterns.{not-nan-pattern}
@@ -21,9 +21,6 @@ field c =
 
 pub float_from_bits-result : goal.float_from_bits-result
 float_from_bits-result c = not-nan-pattern ((c.args.b + 1065353216 - 1060439283) % 8388608 + 1060439283) (omega arith)
-
-pub overflow_sub-result : goal.overflow_sub-result
-overflow_sub-result c = subst (λ (z : ℤ). SFits w64 z) (sym (field c)) (binary-fits _ (split_pattern c.args.b c.requires.normal c.requires.finite).in-range)
 
 pub returns : goal.returns
 returns c =

@@ -1,15 +1,14 @@
 -- `libm::log::positive` meets its contract: below the normal range the pattern b is a whole number of 2 ^ -149, so b's own parts
 -- are taken, with 149 less in the exponent. Assumes nothing.
-use Prim.Native.Nat.{◌^◌, ◌<◌, ℕ}
-use lib.Dec.{le→leb}
-use lib.Ieee.{Float, binary32, in_float, of_bits, of_int, to_bits}
+use Prim.Native.Nat.{◌<◌, ℕ}
+use lib.Ieee.{Float, binary32, of_bits, of_int, to_bits}
 use lib.Ieee.Bits.{of_bits-to_bits}
 use lib.Ieee.Fits.{of_int-fits}
 use lib.IntN.{◌-ℤ◌, pos, ℤ}
 use mathlib.Core.Path.{◌∙◌, ◌≡◌, ap, subst, sym}
 use native.Mathlib.Omega.{arith}
 use mir.Syntax.{w64}
-use mir.Val.{SFits, of_z, to_z}
+use mir.Val.{of_z, to_z}
 use mir.ValLaws.{to_z-of_z}
 use Rattle.libm.proofs.Splits.{binary-fits, ln-below, ln-pattern, lowered-binary, whole-number, whole-pattern}
 use Rattle.libm.specs.Promises.{Binary, SplitOf}
@@ -34,24 +33,12 @@ read-lowered b m e p l w =
     ap (λ (z : ℤ). to_z w64 (of_z w64 (z -ℤ pos 149))) (read b m e w)
     ∙ to_z-of_z w64 (e -ℤ pos 149) (binary-fits (e -ℤ pos 149) (lowered b m e p l w))
 
-pub int_to_float-b : goal.int_to_float-b
-unfolding in_float
-int_to_float-b c = le→leb c.args.b (2 ^ 24) (omega arith)
-
 pub float_to_bits-b : goal.float_to_bits-b
 float_to_bits-b c = whole-number c.args.b c.requires.above_zero c.if-b-lt8388608.true
 
 pub mantissa_and_exponent-p-requires : goal.mantissa_and_exponent-p-requires
 mantissa_and_exponent-p-requires c =
     let w = whole-pattern c.args.b c.requires.above_zero c.if-b-lt8388608.true in record { normal = w.0; finite = w.1 }
-
-pub overflow_sub-p : goal.overflow_sub-p
-overflow_sub-p c =
-    let b = c.args.b in
-    let r = c.mantissa_and_exponent-p.result in
-    let w = c.mantissa_and_exponent-p.ensures in
-    subst (λ (z : ℤ). SFits w64 (z -ℤ pos 149)) (sym (read b r.mantissa r.exponent w))
-    (binary-fits (r.exponent -ℤ pos 149) (lowered b r.mantissa r.exponent c.requires.above_zero c.if-b-lt8388608.true w))
 
 pub joined-requires : goal.joined-requires
 joined-requires c =

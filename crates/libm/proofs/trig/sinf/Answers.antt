@@ -1,19 +1,12 @@
--- `libm::trig::sinf` meets its contract: within size 4 the quarter turns as a float are the definition's. Assumes nothing.
-use lib.Ieee.{div, neg, of_bits, round}
-use Rattle.libm.proofs.Quarters.{sin-held}
-use Rattle.libm.specs.Trig.{sin_of}
+-- `libm::trig::sinf` meets its contract: within size 4 by the quadrant and the rest, and a NaN beyond. Assumes nothing.
+use lib.Ieee.{div, of_bits}
+use mathlib.Core.Path.{◌∙◌, sym}
+use Rattle.libm.proofs.Quarters.{sin_beyond, sin_held}
 use Rattle.libm.proofs.trig.sinf.Goals as goal
 
-pub returns-then-x-2 : goal.returns-then-x-2
-unfolding of_bits neg round
-returns-then-x-2 c =
-    let q = c in
-    simp (c.sin_at.ensures, c.rest_of.ensures, q.quarters-q.ensures, sin-held _ q.if-x.true q.if-x-2.true)
+pub returns-in-Some : goal.returns-in-Some
+returns-in-Some c = c.sin_at.ensures ∙ sin_held c.args.x _ (sym c.quadrant_and_rest.ensures ∙ c.in-Some.is)
 
-pub returns-then-x : goal.returns-then-x
-unfolding sin_of of_bits neg div round
-returns-then-x c = simp (c.if-x-2.false, c.if-x.true)
-
-pub returns : goal.returns
-unfolding sin_of of_bits neg div round
-returns c = simp c.if-x.false
+pub returns-in-None : goal.returns-in-None
+unfolding div of_bits
+returns-in-None c = sym (sin_beyond c.args.x (sym c.quadrant_and_rest.ensures ∙ c.in-None.is))
