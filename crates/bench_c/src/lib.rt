@@ -24,7 +24,7 @@ use airframe_block::AirframeRead;
 use answers::{Answer, Refusal};
 use flight::{Flight, Tick};
 use run::{Pair, RunResult};
-use wing::{Report, Tables, TickResult};
+use wing::{Accepted, Report, Tables, TickResult};
 
 #[unsafe(no_mangle)]
 pub extern "C" fn bench_sqrtf(x: f32) -> f32
@@ -224,7 +224,7 @@ fn ticked_prepared(airframe: &[f32], f: Flight, t: Tick) -> TickResult
             let constants = arrays::lag_constants_in(airframe);
             let lags = wing::lag_factors_from(constants, t.step_s, &tables.powers);
             let a = arrays::airframe_in(airframe);
-            wing::tick_accepted(a, f, t, lags, &tables)
+            wing::tick_accepted(Accepted { airframe: a }, f, t, lags, &tables)
         }
     }
 }

@@ -13,7 +13,7 @@ ghost use Rattle.run.specs.Mirrored as Mirrored;
 use airframe::Airframe;
 use answers::{Answer, Refusal};
 use flight::{Flight, Tick};
-use wing::Tables;
+use wing::{Accepted, Tables};
 
 // A run's answer, 0 or 1, its end state and how many of its ticks were accepted.
 #[derive(Clone, Copy)]
@@ -81,9 +81,9 @@ fn run_track<T: Track>(a: Airframe, f: Flight, trace: &[u8]) -> RunResult
     ensures { result ≡ Promises.track_result T.tick a f trace.now }
 {
     if trace::is_whole(trace) {
-        if a.refused_place().is_none() {
+        if let Ok(accepted) = Accepted::of(a) {
             if f.is_inside() {
-                return fly_all::<T>(a, f, trace);
+                return fly_all::<T>(accepted, f, trace);
             }
             return ended(Ok(()), f, 0);
         }
@@ -105,19 +105,18 @@ pub fn ended(answer: Answer, flight: Flight, accepted: u64) -> RunResult
 
 // The ticks one after the other, of an airframe and a state that are accepted: neither is tested again, since each state that is
 // kept was tested as the next one.
-fn fly_all<T: Track>(a: Airframe, f: Flight, trace: &[u8]) -> RunResult
-    requires airframe_accepted { refused_place a ≡ 0 }
-    requires state_inside { is_inside f ≡ true }
-    ensures { result ≡ Promises.track_flown T.tick a f trace.now }
+fn fly_all<T: Track>(a: Accepted, f: Flight, trace: &[u8]) -> RunResult
+    requires { is_inside f ≡ true }
+    ensures { result ≡ Promises.track_flown T.tick a.airframe f trace.now }
 {
     let count = trace::tick_count(trace);
     let mut flight = f;
     let tables = Tables::new();
-    let mut lags = wing::begin(a, 0.01, &tables.powers);
+    let mut lags = wing::begin(a.airframe, 0.01, &tables.powers);
     let mut accepted = 0u64;
     for i in 0..count {
         let t = T::take(trace::tick_at(trace, i));
-        lags = wing::cached_lag_factors(a, lags, t.step_s, &tables.powers);
+        lags = wing::cached_lag_factors(a.airframe, lags, t.step_s, &tables.powers);
         let done = wing::tick_inside(a, flight, t, lags, &tables);
         let report = done.report;
         let answer = report.answer;

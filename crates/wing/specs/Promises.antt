@@ -3,9 +3,12 @@
 use Rattle.std.specs.Prelude.{Float, Option, Some, None, ◌≡◌}
 use Rattle.std.specs.Float.{binary32}
 use Rattle.std.specs.Float.Ieee.{of_bits, to_bits}
+use Rattle.airframe.specs.Acceptance.{refused_place}
 use Rattle.airframe.specs.Promises.{lag_constants_of}
 use Rattle.airframe.specs.declared.Airframe.{Airframe}
 use Rattle.airframe.specs.declared.LagConstants.{LagConstants}
+use Rattle.answers.specs.declared.Refusal.{Refusal}
+use Rattle.answers.specs.declared.Refusal.TheVariants.{NumberOutOfRange}
 use Rattle.float.specs.Notation.{zero}
 use Rattle.lag.specs.Lag.{factor_of}
 use Rattle.wing.specs.declared.LagFactors.{LagFactors}
@@ -32,3 +35,8 @@ pub record FactorsMatchStep (a : Airframe) (held : LagFactors) : Type 0 where
   pub motor : held.motor ≡ (begin_of a (of_bits binary32 held.step_bits)).motor
   pub servo : held.servo ≡ (begin_of a (of_bits binary32 held.step_bits)).servo
   pub lift : held.lift ≡ (begin_of a (of_bits binary32 held.step_bits)).lift
+
+-- a refusal for the lowest place of an airframe that is out of range
+pub record RefusedBy (a : Airframe) (refusal : Refusal) : Type 0 where
+  pub is : refusal ≡ NumberOutOfRange (refused_place a)
+  pub there : refused_place a ≡ 0 → ⊥

@@ -1,15 +1,17 @@
 // 01, module 8: the tick. Lags, thrust, wash, aerodynamics, lift rotors and the body's step, with the tests 6 to 10 around them.
 #![tactic(auto)]
 
+mod accepted;
+
 ghost use Rattle.std.specs.Prelude.{true, ◌≡◌};
 ghost use Rattle.air.specs.Density as Density;
-ghost use Rattle.airframe.specs.Acceptance.{refused_place};
 ghost use Rattle.flight.specs.Envelope.{is_inside};
 ghost use Rattle.libm.specs.Powers.{powers_of_two};
 ghost use Rattle.wing.specs.Promises as Promises;
 ghost use Rattle.wing.specs.Loads as LoadsOf;
 ghost use Rattle.wing.specs.Tick as TickOf;
 
+pub use accepted::Accepted;
 use air::DensityTable;
 use airframe::{Airframe, LagConstants};
 use answers::{Answer, Refusal};
@@ -80,27 +82,26 @@ pub struct LagFactors {
 pub fn tick(a: Airframe, f: Flight, t: Tick) -> TickResult
     ensures { result ≡ TickOf.tick_of a f t }
 {
-    match a.refused_place() {
-        Some(place) => refused(Refusal::NumberOutOfRange(place), f),
-        None => {
+    match Accepted::of(a) {
+        Err(refusal) => refused(refusal, f),
+        Ok(accepted) => {
             let tables = Tables::new();
             let lags = begin(a, t.step_s, &tables.powers);
-            tick_accepted(a, f, t, lags, &tables)
+            tick_accepted(accepted, f, t, lags, &tables)
         }
     }
 }
 
 // The same of an airframe that is accepted, with the lag factors of the tick's step: the tests 7, 8, 10 and 9.
 pub fn tick_accepted(
-    a: Airframe,
+    a: Accepted,
     f: Flight,
     t: Tick,
     lags: LagFactors,
     tables: &Tables,
 ) -> TickResult
-    requires airframe_accepted { refused_place a ≡ 0 }
-    requires lags_match { lags ≡ Promises.begin_of a t.step_s }
-    ensures { result ≡ TickOf.tick_of a f t }
+    requires { lags ≡ Promises.begin_of a.airframe t.step_s }
+    ensures { result ≡ TickOf.tick_of a.airframe f t }
 {
     if f.is_inside() {
         return tick_inside(a, f, t, lags, tables);
@@ -109,15 +110,14 @@ pub fn tick_accepted(
 }
 
 // The same from a state inside the envelope: the tests 8, 10 and 9.
-pub fn tick_inside(a: Airframe, f: Flight, t: Tick, lags: LagFactors, tables: &Tables) -> TickResult
-    requires airframe_accepted { refused_place a ≡ 0 }
+pub fn tick_inside(a: Accepted, f: Flight, t: Tick, lags: LagFactors, tables: &Tables) -> TickResult
     requires state_inside { is_inside f ≡ true }
-    requires lags_match { lags ≡ Promises.begin_of a t.step_s }
-    ensures { result ≡ TickOf.tick_of a f t }
+    requires lags_match { lags ≡ Promises.begin_of a.airframe t.step_s }
+    ensures { result ≡ TickOf.tick_of a.airframe f t }
 {
     if float::inside(t.step_s, 0.0009765625, 0.02) {
         if wind_usable(t.wind_ned_mps) {
-            return unless_departed(f, next_with(a, f, t, lags, tables));
+            return unless_departed(f, next_with(a.airframe, f, t, lags, tables));
         }
         return refused(Refusal::WindUnusable, f);
     }

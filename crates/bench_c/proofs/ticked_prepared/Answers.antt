@@ -8,9 +8,9 @@ use Rattle.wing.specs.Tick.{refused_of, tick_of, tick_with}
 use mathlib.Core.Path.{◌∙◌, ap, sym}
 use Rattle.bench_c.proofs.ticked_prepared.Goals as goal
 
-pub tick_accepted-requires-clause-airframe_accepted : goal.tick_accepted-requires-clause-airframe_accepted
-tick_accepted-requires-clause-airframe_accepted c =
-    ap refused_place c.airframe_in-a.ensures ∙ none-zero _ (sym c.refused_place.ensures ∙ c.in-None.is)
+pub invariant_of-tick_accepted : goal.invariant_of-tick_accepted
+invariant_of-tick_accepted c =
+    record { is_accepted = ap refused_place c.airframe_in-a.ensures ∙ none-zero _ (sym c.refused_place.ensures ∙ c.in-None.is) }
 
 pub returns-in-Some : goal.returns-in-Some
 unfolding tick_of tick_with

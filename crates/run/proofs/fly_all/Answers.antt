@@ -23,7 +23,7 @@ loop-i-init g c = (
   search rules,
   c.tick_count-count.ensures,
   refl,
-  c.requires.state_inside,
+  c.requires,
   subst (FactorsMatchStep _) (sym c.begin-lags.ensures) (begin-of-its-step _ _ (of_bits-fits binary32 _)),
 )
 
@@ -33,16 +33,16 @@ loop-i-preserved g c =
     let kept = c.loop-i.invariant in
     let p : Progress = record { flight = c.loop-i.flight; accepted = c.loop-i.accepted } in
     let start : Progress = record { flight = a.f; accepted = 0 } in
-    let on = track_on g.T.Track.tick a.a in
+    let on = track_on g.T.Track.tick a.a.airframe in
     let taken = c.take-t.ensures ∙ ap g.T.Track.tick c.tick_at.ensures in (
       search rules,
       kept.1,
-      progress a.a p _ c.take-t.result c.tick_inside-done.result c.one_if_done-accepted.result taken
+      progress a.a.airframe p _ c.take-t.result c.tick_inside-done.result c.one_if_done-accepted.result taken
           c.tick_inside-done.ensures c.one_if_done-accepted.ensures.value
           ∙ ap (λ (q : Progress). on q (tick_at a.trace.now c.loop-i.i)) kept.2
           ∙ after_more on start a.trace.now c.loop-i.i,
       ap (λ (x : TickResult). is_inside x.flight) c.tick_inside-done.ensures
-          ∙ stays-inside a.a c.loop-i.flight c.take-t.result kept.3,
+          ∙ stays-inside a.a.airframe c.loop-i.flight c.take-t.result kept.3,
       c.cached_lag_factors-lags.ensures.matches_step,
     )
 
@@ -54,5 +54,5 @@ returns g c =
     c.ended.ensures
     ∙ ap (λ (p : Progress). ended done p.flight p.accepted)
     (c.loop-i.invariant.2
-    ∙ after-all (track_on g.T.Track.tick a.a) start a.trace.now c.loop-i.i (omega arith) (omega (arith, c.loop-i-test.false))
-    ∙ sym (foldl-map g.T.Track.tick (progressed a.a) (ticks_of a.trace.now) start))
+    ∙ after-all (track_on g.T.Track.tick a.a.airframe) start a.trace.now c.loop-i.i (omega arith) (omega (arith, c.loop-i-test.false))
+    ∙ sym (foldl-map g.T.Track.tick (progressed a.a.airframe) (ticks_of a.trace.now) start))

@@ -14,6 +14,6 @@ abbrev pub invariant-loop-i : goal.invariant-loop-i
 invariant-loop-i g l = let start : Progress = record { flight = l.initial.flight; accepted = 0 } in
     (l.accepted ≤ l.i)
     × (l.count ≡ tick_count l.trace)
-    × (◌≡◌ {A = Progress} (record { flight = l.flight; accepted = l.accepted }) (after (track_on g.T.Track.tick l.a) start l.trace l.i))
+    × (◌≡◌ {A = Progress} (record { flight = l.flight; accepted = l.accepted }) (after (track_on g.T.Track.tick l.a.airframe) start l.trace l.i))
     × (is_inside l.flight ≡ true)
-    × FactorsMatchStep l.a l.lags
+    × FactorsMatchStep l.a.airframe l.lags

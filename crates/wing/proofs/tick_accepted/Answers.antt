@@ -5,9 +5,8 @@ use Rattle.wing.proofs.tick_accepted.Goals as goal
 
 pub tick_inside-requires : goal.tick_inside-requires
 tick_inside-requires c =
-    let p = c.requires in
-    record { airframe_accepted = p.airframe_accepted; state_inside = sym c.is_inside.ensures ∙ c.if-is_inside.true; lags_match = p.lags_match }
+    record { state_inside = sym c.is_inside.ensures ∙ c.if-is_inside.true; lags_match = c.requires }
 
 pub returns : goal.returns
 unfolding tick_of tick_with accepted_tick
-returns c = simp (c.refused.ensures, c.requires.airframe_accepted, sym c.is_inside.ensures ∙ c.if-is_inside.false)
+returns c = simp (c.refused.ensures, c.args.a.is_accepted, sym c.is_inside.ensures ∙ c.if-is_inside.false)

@@ -14,7 +14,7 @@ returns-then-wind_usable c =
       c.next_with.ensures,
       sym c.wind_usable.ensures ∙ c.if-wind_usable.true,
       sym outer.inside.ensures ∙ outer.if-inside.true,
-      pre.airframe_accepted,
+      outer.args.a.is_accepted,
       pre.state_inside,
     )
 
@@ -27,7 +27,7 @@ returns-then-inside c =
       c.refused.ensures,
       sym c.wind_usable.ensures ∙ c.if-wind_usable.false,
       sym outer.inside.ensures ∙ outer.if-inside.true,
-      pre.airframe_accepted,
+      outer.args.a.is_accepted,
       pre.state_inside,
     )
 
@@ -35,4 +35,4 @@ pub returns : goal.returns
 unfolding tick_of tick_with accepted_tick of_bits round
 returns c =
     let pre = c.requires in
-    simp (c.refused-2.ensures, sym c.inside.ensures ∙ c.if-inside.false, pre.airframe_accepted, pre.state_inside)
+    simp (c.refused-2.ensures, sym c.inside.ensures ∙ c.if-inside.false, c.args.a.is_accepted, pre.state_inside)
