@@ -106,9 +106,7 @@ fn reply(answer: Answer) -> u64
 pub extern "C" fn bench_read_airframe(block: &[u8]) -> u64
     ensures { result ≡ Library.reply_of (read_airframe_of block.now).answer }
 {
-    let read = airframe_block::read_airframe(block);
-    let answer = read.answer;
-    reply(answer)
+    reply(airframe_block::read_airframe(block).answer)
 }
 
 // Reads an airframe block into an array, for many ticks; a refused block gives the zero airframe.
@@ -118,14 +116,12 @@ pub extern "C" fn bench_prepare(block: &[u8], airframe: &mut [f32]) -> u64
     ensures { let o = Library.prepare block.now airframe.old in
         (result ≡ o.reply) × (airframe.new ≡ o.numbers) }
 {
-    let lent = airframe.len();
-    if lent != arrays::AIRFRAME_NUMBERS {
+    if airframe.len() != arrays::AIRFRAME_NUMBERS {
         return WRONG_LENGTH;
     }
     let read = airframe_block::read_airframe(block);
-    let answer = read.answer;
     arrays::put_airframe(airframe, read.airframe);
-    reply(answer)
+    reply(read.answer)
 }
 
 // Reads a state block into an array, with thrust scales of 1 and lift rotors at 0 where the block has none; a refused block gives
@@ -136,14 +132,12 @@ pub extern "C" fn bench_read_state(block: &[u8], state: &mut [f32]) -> u64
     ensures { let o = Library.read_state block.now state.old in
         (result ≡ o.reply) × (state.new ≡ o.numbers) }
 {
-    let lent = state.len();
-    if lent != arrays::STATE_NUMBERS {
+    if state.len() != arrays::STATE_NUMBERS {
         return WRONG_LENGTH;
     }
     let read = state_block::read_state(block);
-    let answer = read.answer;
     arrays::put_flight(state, read.flight);
-    reply(answer)
+    reply(read.answer)
 }
 
 // Writes a state's array into a block of 180 bytes.
@@ -167,14 +161,12 @@ pub extern "C" fn bench_read_tick(block: &[u8], tick: &mut [f32]) -> u64
     ensures { let o = Library.read_tick block.now tick.old in
         (result ≡ o.reply) × (tick.new ≡ o.numbers) }
 {
-    let lent = tick.len();
-    if lent != arrays::TICK_NUMBERS {
+    if tick.len() != arrays::TICK_NUMBERS {
         return WRONG_LENGTH;
     }
     let read = trace::read_tick_block(block);
-    let answer = read.answer;
     arrays::put_tick(tick, read.tick);
-    reply(answer)
+    reply(read.answer)
 }
 
 // Writes a tick's array into a block of 80 bytes.
@@ -315,11 +307,10 @@ fn run_by(read: AirframeRead, f: Flight, trace: &[u8]) -> RunResult
     ensures { result ≡ Library.run_result_by read f trace.now }
 {
     if trace::is_whole(trace) {
-        let answer = read.answer;
-        if answer.is_ok() {
+        if read.answer.is_ok() {
             return run::run(read.airframe, f, trace);
         }
-        return run::ended(answer, f, 0);
+        return run::ended(read.answer, f, 0);
     }
     run::ended(Err(Refusal::WrongLength), f, 0)
 }
@@ -339,11 +330,10 @@ fn pair_by(read: AirframeRead, f: Flight, trace: &[u8]) -> Pair
     ensures { Promises.PairBy read f trace.now result }
 {
     if trace::is_whole(trace) {
-        let answer = read.answer;
-        if answer.is_ok() {
+        if read.answer.is_ok() {
             return run::mirrored_pair(read.airframe, f, trace);
         }
-        return ended_pair(answer, f);
+        return ended_pair(read.answer, f);
     }
     ended_pair(Err(Refusal::WrongLength), f)
 }
@@ -360,8 +350,7 @@ pub extern "C" fn bench_run(
     ensures { let o = Library.run airframe.now state.old trace.now in
         (result ≡ o.reply) × (state.new ≡ o.state) × (accepted.new ≡ o.accepted) }
 {
-    let lent = state.len();
-    if lent == arrays::STATE_NUMBERS {
+    if state.len() == arrays::STATE_NUMBERS {
         let f = arrays::flight_in(state);
         let done = run_by(airframe_block::read_airframe(airframe), f, trace);
         store_if_accepted(state, done.answer, done.flight);

@@ -31,6 +31,7 @@ pub struct Pair {
 }
 
 // Flies the whole trace from `f`; a refused tick does not end the run. A trace that is not whole ticks gets 1, and `f` back.
+#[tactic(auto, unfolding(crate::specs::Promises::track_result, crate::specs::Run::run_result_of))]
 pub fn run(a: Airframe, f: Flight, trace: &[u8]) -> RunResult
     ensures { result ≡ Run.run_result_of a f trace.now }
 {
@@ -93,6 +94,7 @@ fn run_track<T: Track>(a: Airframe, f: Flight, trace: &[u8]) -> RunResult
 }
 
 // What a run hands back.
+#[tactic(auto, unfolding(crate::specs::Run::ended))]
 pub fn ended(answer: Answer, flight: Flight, accepted: u64) -> RunResult
     ensures { result ≡ Run.ended answer flight accepted }
 {
@@ -126,6 +128,7 @@ fn fly_all<T: Track>(a: Accepted, f: Flight, trace: &[u8]) -> RunResult
     ended(Ok(()), flight, accepted)
 }
 
+#[tactic(auto, unfolding(crate::specs::Run::one_if_done))]
 fn one_if_done(answer: Answer) -> u64
     ensures value { result ≡ Run.one_if_done answer }
     ensures upper_bound { result ≤ 1 }
