@@ -40,24 +40,17 @@ struct Header {
     rows: usize,
 }
 
-fn wide(b: u8) -> usize
-    ensures { result ≡ b }
-{
-    b as usize
-}
-
 // The header of the bytes a and b, most significant bits first.
 fn header_of(a: u8, b: u8) -> Header
     ensures { result ≡ Block.header_of a b }
 {
-    let rows = wide(b % 32);
     Header {
         version: a / 16,
         kind: a / 4 % 4,
         wash: a / 2 % 2 == 1,
         lift: a % 2 == 1,
         reserved: b / 32,
-        rows,
+        rows: usize::from(b % 32),
     }
 }
 

@@ -4,4 +4,4 @@ use Rattle.airframe_block.proofs.header_of.Goals as goal
 
 pub returns : goal.returns
 unfolding header_of
-returns c = simp c.wide-rows.ensures
+returns c = simp c.from.ensures
