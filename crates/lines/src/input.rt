@@ -1,6 +1,7 @@
 // Where the input comes from, and its bytes.
 ghost use Rattle.std.specs.Prelude.{◌≡◌, ◌≤◌, length};
 ghost use Rattle.lines.specs.Asked.{asked_by};
+ghost use Rattle.lines.specs.Page.{page_bytes};
 
 use crate::page::PAGE_BYTES;
 use std::env::FillError;
@@ -53,7 +54,9 @@ pub fn word_count(rt: &HostRuntime) -> usize
 }
 
 // The first argument, in the buffer that is lent: one that is longer is taken for an empty one.
-pub fn first_argument<'a>(rt: &HostRuntime, name: &'a mut [u8; PAGE_BYTES]) -> &'a [u8] {
+pub fn first_argument<'a>(rt: &HostRuntime, name: &'a mut [u8; PAGE_BYTES]) -> &'a [u8]
+    ensures { length result.now ≤ page_bytes }
+{
     let n = rt.arg(1, name).unwrap_or(0);
     &name[..n]
 }
