@@ -339,7 +339,7 @@ fn pair_by(read: AirframeRead, f: Flight, trace: &[u8]) -> Pair
 }
 
 // Flies the trace from the state in its array, and counts the accepted ticks: a refused run leaves the state and counts none.
-#[tactic(auto, using(crate::proofs::After::of_run), unfolding(crate::specs::Library::run))]
+#[tactic(auto, unfolding(crate::specs::Library::run))]
 #[unsafe(no_mangle)]
 pub extern "C" fn bench_run(
     airframe: &[u8],
