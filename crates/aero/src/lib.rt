@@ -144,12 +144,7 @@ fn with_surfaces(
 }
 
 // Of (u, v, w), v plays no part here.
-fn flow_of(
-    model: FixedWingModel,
-    air_mps: Vec3,
-    density_kgpm3: f32,
-    powers: &PowerTable,
-) -> Flow
+fn flow_of(model: FixedWingModel, air_mps: Vec3, density_kgpm3: f32, powers: &PowerTable) -> Flow
     ensures { result ≡ Wrench.flow_of model air_mps density_kgpm3 }
 {
     let c = model.aero;

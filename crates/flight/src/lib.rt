@@ -176,8 +176,14 @@ impl Flight {
         let rates = ordered::after(7, vec_outside(body.angular_velocity_radps, MAX_RATE_RADPS));
         let motors = ordered::after(10, slots_outside(self.motors, MIN_RUNNING, MAX_RUNNING));
         let servos = ordered::after(18, slots_outside(self.servos, MIN_SERVO, MAX_SERVO));
-        let scales = ordered::after(26, slots_outside(self.thrust_scale, MIN_RUNNING, MAX_RUNNING));
-        let lift = ordered::after(34, slots_outside(self.lift_motors, MIN_RUNNING, MAX_RUNNING));
+        let scales = ordered::after(
+            26,
+            slots_outside(self.thrust_scale, MIN_RUNNING, MAX_RUNNING),
+        );
+        let lift = ordered::after(
+            34,
+            slots_outside(self.lift_motors, MIN_RUNNING, MAX_RUNNING),
+        );
         position
             .or(velocity)
             .or(attitude)

@@ -21,10 +21,10 @@ pub returns-then-is_some : goal.returns-then-is_some
 returns-then-is_some c =
     let a = c.args in
     let set =
-        sym
-        (c.is_some.ensures
-        ∙ ap is_some
-        (c.reserved_row.ensures ∙ ap (λ (z : ℕ). unless_zero (reserved_row a.s.now a.h.lift z a.h.rows)) c.rows_at-start.ensures.value)) in
+    sym
+    (c.is_some.ensures
+    ∙ ap is_some
+    (c.reserved_row.ensures ∙ ap (λ (z : ℕ). unless_zero (reserved_row a.s.now a.h.lift z a.h.rows)) c.rows_at-start.ensures.value)) in
     c.refused.ensures ∙ body_refused a.s.now a.h (is-some-not-zero _ (set ∙ c.if-is_some.true))
 
 pub read_rows-rows-requires-clause-rows_bound : goal.read_rows-rows-requires-clause-rows_bound
@@ -49,10 +49,10 @@ returns c =
     let rows = r.read_rows-rows.ensures ∙ ap (λ z. rows_from a.s.now z a.h.rows) b.rows_at-start.ensures.value in
     let numbers = n.read_numbers-xs.ensures in
     let set =
-        sym
-        (c.is_some.ensures
-        ∙ ap is_some
-        (c.reserved_row.ensures ∙ ap (λ (z : ℕ). unless_zero (reserved_row a.s.now a.h.lift z a.h.rows)) c.rows_at-start.ensures.value)) in
+    sym
+    (c.is_some.ensures
+    ∙ ap is_some
+    (c.reserved_row.ensures ∙ ap (λ (z : ℕ). unless_zero (reserved_row a.s.now a.h.lift z a.h.rows)) c.rows_at-start.ensures.value)) in
     c.tested.ensures
     ∙ ap₂ tested_block (c.airframe_by.ensures ∙ ap₂ (λ x y. airframe_by x a.h y) numbers rows) rows
     ∙ body-read a.s.now a.h (not-some-zero _ (set ∙ r.if-is_some.false))
