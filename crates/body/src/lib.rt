@@ -51,6 +51,7 @@ pub struct Loads {
 
 impl Wrench {
     // Both together.
+    #[tactic(auto, unfolding(crate::specs::Motion::add_wrench))]
     pub fn add(self, w: Wrench) -> Self
         ensures { result ≡ Motion.add_wrench self w }
     {
@@ -64,6 +65,7 @@ impl Wrench {
 
 impl Body {
     // The body after a step of `h` seconds: its position moves with the new velocity, its attitude with the new rates.
+    #[tactic(auto, unfolding(crate::specs::Motion::next_position, crate::specs::Motion::next_velocity, crate::specs::Motion::step_of))]
     pub fn step(self, mass: MassProperties, loads: Loads, h: f32) -> Self
         ensures { result ≡ Motion.step_of self mass loads h }
     {
@@ -86,6 +88,7 @@ impl Body {
     }
 
     // Velocity minus wind, on NED axes.
+    #[tactic(auto, unfolding(crate::specs::Motion::air_velocity))]
     pub fn air_relative_velocity_ned_mps(self, wind_ned_mps: Vec3) -> Vec3
         ensures { result ≡ Motion.air_velocity self wind_ned_mps }
     {
@@ -94,6 +97,7 @@ impl Body {
     }
 
     // The reflection of left and right.
+    #[tactic(auto, unfolding(crate::specs::Reflection::reflect_body))]
     pub fn reflected(self) -> Self
         ensures { result ≡ Reflection.reflect_body self }
     {
@@ -120,6 +124,7 @@ fn acceleration(force_ned_n: Vec3, mass_kg: f32) -> Vec3
 }
 
 // torque - (ω cross (I·ω)) - damping.
+#[tactic(auto, unfolding(crate::specs::Motion::net_torque))]
 fn net_torque(rates: Vec3, inertia: Vec3, loads: Loads) -> Vec3
     ensures { result ≡ Motion.net_torque rates inertia loads }
 {
@@ -129,6 +134,7 @@ fn net_torque(rates: Vec3, inertia: Vec3, loads: Loads) -> Vec3
     torque.sub(rates.cross(momentum)).sub(damping)
 }
 
+#[tactic(auto, unfolding(crate::specs::Motion::next_rates))]
 fn next_rates(rates: Vec3, inertia: Vec3, loads: Loads, h: f32) -> Vec3
     ensures { result ≡ Motion.next_rates rates inertia loads h }
 {
@@ -137,6 +143,7 @@ fn next_rates(rates: Vec3, inertia: Vec3, loads: Loads, h: f32) -> Vec3
 }
 
 // The rotation is about body axes, so it stands second in the product.
+#[tactic(auto, unfolding(crate::specs::Motion::next_attitude))]
 fn next_attitude(attitude: Quaternion, rates: Vec3, h: f32) -> Quaternion
     ensures { result ≡ Motion.next_attitude attitude rates h }
 {
