@@ -92,8 +92,8 @@ fn still(
     Aero {
         force_n,
         torque_nm: torque_nm
-            .add(wash_pitch_nm(model, wash))
-            .add(rate_moments(model, rate_scale, rates_radps)),
+            + wash_pitch_nm(model, wash)
+            + rate_moments(model, rate_scale, rates_radps),
         alpha_rad: surfaces.alpha_rad,
         beta_rad: surfaces.beta_rad,
     }
@@ -120,9 +120,9 @@ fn moving(
     let side_n = area_n * c.c_side_beta * beta_rad;
     let force_n = flow_force_n(model, flow, side_n);
     let torque_nm = static_nm(model, flow, area_n, beta_rad)
-        .add(wash_pitch_nm(model, wash))
-        .add(stall_wash_nm(model, flow, area_n, wash))
-        .add(rate_moments(model, rate_scale, rates_radps));
+        + wash_pitch_nm(model, wash)
+        + stall_wash_nm(model, flow, area_n, wash)
+        + rate_moments(model, rate_scale, rates_radps);
     with_surfaces(force_n, torque_nm, surfaces, flow.alpha_rad, beta_rad)
 }
 
@@ -139,8 +139,8 @@ fn with_surfaces(
     let surface_n = surfaces.force_n;
     let surface_nm = surfaces.torque_nm;
     Aero {
-        force_n: force_n.add(surface_n),
-        torque_nm: torque_nm.add(surface_nm),
+        force_n: force_n + surface_n,
+        torque_nm: torque_nm + surface_nm,
         alpha_rad,
         beta_rad,
     }
@@ -316,15 +316,14 @@ fn surface_wrench(
         model.span_m * c.c_roll_rudder * deflection_rad.z,
         model.chord_m * c.c_pitch_elevator * deflection_rad.y,
         model.span_m * c.c_yaw_rudder * deflection_rad.z,
-    )
-    .scale(pressure_area_n);
+    ) * pressure_area_n;
     Aero {
         force_n: Vec3::new(
             0.0,
             pressure_area_n * c.c_side_rudder * deflection_rad.z,
             0.0,
         ),
-        torque_nm: aileron_nm.add(elevator_and_rudder_nm),
+        torque_nm: aileron_nm + elevator_and_rudder_nm,
         alpha_rad: 0.0,
         beta_rad: 0.0,
     }
