@@ -44,6 +44,7 @@ struct Flow {
 
 // Module 6 as a whole. `air_mps` is (u, v, w), `rates_radps` (p, q, r), `deflection_rad` aileron, elevator, rudder. Air whose
 // speed is not above 0, or NaN, counts as still.
+#[tactic(auto, unfolding(crate::specs::Wrench::aero_wrench))]
 pub fn wrench(
     model: FixedWingModel,
     air_mps: Vec3,
@@ -74,6 +75,7 @@ pub fn wrench(
 }
 
 // Without airspeed only the wash acts: on the surfaces, as a pitch moment, and in the rate terms.
+#[tactic(auto, unfolding(crate::specs::Wrench::still_of))]
 fn still(
     model: FixedWingModel,
     rates_radps: Vec3,
@@ -90,8 +92,8 @@ fn still(
     Aero {
         force_n,
         torque_nm: torque_nm
-            .add(wash_pitch_nm(model, wash))
-            .add(rate_moments(model, rate_scale, rates_radps)),
+            + wash_pitch_nm(model, wash)
+            + rate_moments(model, rate_scale, rates_radps),
         alpha_rad: surfaces.alpha_rad,
         beta_rad: surfaces.beta_rad,
     }
@@ -118,12 +120,13 @@ fn moving(
     let side_n = area_n * c.c_side_beta * beta_rad;
     let force_n = flow_force_n(model, flow, side_n);
     let torque_nm = static_nm(model, flow, area_n, beta_rad)
-        .add(wash_pitch_nm(model, wash))
-        .add(stall_wash_nm(model, flow, area_n, wash))
-        .add(rate_moments(model, rate_scale, rates_radps));
+        + wash_pitch_nm(model, wash)
+        + stall_wash_nm(model, flow, area_n, wash)
+        + rate_moments(model, rate_scale, rates_radps);
     with_surfaces(force_n, torque_nm, surfaces, flow.alpha_rad, beta_rad)
 }
 
+#[tactic(auto, unfolding(crate::specs::Wrench::with_surfaces))]
 fn with_surfaces(
     force_n: Vec3,
     torque_nm: Vec3,
@@ -136,14 +139,15 @@ fn with_surfaces(
     let surface_n = surfaces.force_n;
     let surface_nm = surfaces.torque_nm;
     Aero {
-        force_n: force_n.add(surface_n),
-        torque_nm: torque_nm.add(surface_nm),
+        force_n: force_n + surface_n,
+        torque_nm: torque_nm + surface_nm,
         alpha_rad,
         beta_rad,
     }
 }
 
 // Of (u, v, w), v plays no part here.
+#[tactic(auto, unfolding(crate::specs::Wrench::flow_at, crate::specs::Wrench::flow_of))]
 fn flow_of(model: FixedWingModel, air_mps: Vec3, density_kgpm3: f32, powers: &PowerTable) -> Flow
     ensures { result ≡ Wrench.flow_of model air_mps density_kgpm3 }
 {
@@ -160,12 +164,14 @@ fn flow_of(model: FixedWingModel, air_mps: Vec3, density_kgpm3: f32, powers: &Po
 }
 
 // sqrt(u·u + w·w).
+#[tactic(auto, unfolding(crate::specs::Wrench::symmetric_speed))]
 fn symmetric_speed_mps(air_mps: Vec3) -> f32
     ensures { result ≡ Wrench.symmetric_speed air_mps }
 {
     libm::sqrtf(air_mps.x * air_mps.x + air_mps.z * air_mps.z)
 }
 
+#[tactic(auto, unfolding(crate::specs::Wrench::sideslip))]
 fn sideslip(air_y_mps: f32, speed_mps: f32) -> f32
     ensures { result ≡ Wrench.sideslip air_y_mps speed_mps }
 {
@@ -173,6 +179,7 @@ fn sideslip(air_y_mps: f32, speed_mps: f32) -> f32
 }
 
 // Lift at a right angle to (u, w), drag against it, and the side force by beta.
+#[tactic(auto, unfolding(crate::specs::Wrench::flow_force, crate::specs::Wrench::flow_lift))]
 fn flow_force_n(model: FixedWingModel, flow: Flow, side_n: f32) -> Vec3
     ensures { result ≡ Wrench.flow_force model flow side_n }
 {
@@ -201,6 +208,7 @@ fn flow_drag_n(model: FixedWingModel, flow: Flow) -> f32
 }
 
 // Moments by alpha and beta alone: no rates, deflections or wash.
+#[tactic(auto, unfolding(crate::specs::Wrench::static_moments))]
 fn static_nm(model: FixedWingModel, flow: Flow, area_n: f32, beta_rad: f32) -> Vec3
     ensures { result ≡ Wrench.static_moments model flow area_n beta_rad }
 {
@@ -220,6 +228,7 @@ fn static_nm(model: FixedWingModel, flow: Flow, area_n: f32, beta_rad: f32) -> V
 }
 
 // What the wash adds to the pitch moment beyond the stall: none of it tail first, more with a larger share of free stream.
+#[tactic(auto, unfolding(crate::specs::Wrench::stall_share, crate::specs::Wrench::stall_wash))]
 fn stall_wash_nm(model: FixedWingModel, flow: Flow, area_n: f32, wash: Wash) -> Vec3
     ensures { result ≡ Wrench.stall_wash model flow area_n wash }
 {
@@ -236,6 +245,7 @@ fn stall_wash_nm(model: FixedWingModel, flow: Flow, area_n: f32, wash: Wash) -> 
 }
 
 // 0 where the sum is not above 0, as without wash at a speed whose square underflows.
+#[tactic(auto, unfolding(crate::specs::Wrench::free_share))]
 fn free_share(free_pa: f32, total_pa: f32) -> f32
     ensures { result ≡ Wrench.free_share free_pa total_pa }
 {
@@ -246,6 +256,7 @@ fn free_share(free_pa: f32, total_pa: f32) -> f32
 }
 
 // The wash torque of module 6.
+#[tactic(auto, unfolding(crate::specs::Wrench::wash_pitch))]
 fn wash_pitch_nm(model: FixedWingModel, wash: Wash) -> Vec3
     ensures { result ≡ Wrench.wash_pitch model wash }
 {
@@ -264,6 +275,7 @@ fn wash_rate_scale(model: FixedWingModel, wash: Wash, density_kgpm3: f32) -> f32
 }
 
 // Surfaces in free stream and wash: roll has a pressure of its own.
+#[tactic(auto, unfolding(crate::specs::Wrench::washed_surfaces))]
 fn washed_surfaces(
     model: FixedWingModel,
     wash: Wash,
@@ -277,6 +289,7 @@ fn washed_surfaces(
     surface_wrench(model, roll_area_n, area_n, deflection_rad)
 }
 
+#[tactic(auto, unfolding(crate::specs::Wrench::with_wash))]
 fn with_wash(surface_free_n: f32, wash_pa: f32, wing_area_m2: f32) -> f32
     ensures { result ≡ Wrench.with_wash surface_free_n wash_pa wing_area_m2 }
 {
@@ -284,6 +297,7 @@ fn with_wash(surface_free_n: f32, wash_pa: f32, wing_area_m2: f32) -> f32
 }
 
 // Surface force and torque: `roll_area_n` is R, for the aileron, `pressure_area_n` is E, for elevator and rudder.
+#[tactic(auto, unfolding(crate::specs::Wrench::aileron_moment, crate::specs::Wrench::elevator_and_rudder, crate::specs::Wrench::surface_wrench))]
 fn surface_wrench(
     model: FixedWingModel,
     roll_area_n: f32,
@@ -302,15 +316,14 @@ fn surface_wrench(
         model.span_m * c.c_roll_rudder * deflection_rad.z,
         model.chord_m * c.c_pitch_elevator * deflection_rad.y,
         model.span_m * c.c_yaw_rudder * deflection_rad.z,
-    )
-    .scale(pressure_area_n);
+    ) * pressure_area_n;
     Aero {
         force_n: Vec3::new(
             0.0,
             pressure_area_n * c.c_side_rudder * deflection_rad.z,
             0.0,
         ),
-        torque_nm: aileron_nm.add(elevator_and_rudder_nm),
+        torque_nm: aileron_nm + elevator_and_rudder_nm,
         alpha_rad: 0.0,
         beta_rad: 0.0,
     }
@@ -359,6 +372,7 @@ fn exponent(x: f32, powers: &PowerTable) -> f32
 }
 
 // The attached wing's lift, a line over alpha.
+#[tactic(auto, unfolding(crate::specs::Coefficients::linear_lift))]
 fn linear_lift(c: AeroCoefficients, alpha_rad: f32) -> f32
     ensures { result ≡ Coefficients.linear_lift c alpha_rad }
 {
@@ -417,6 +431,7 @@ fn flat_plate_pressure_drag(sin_alpha: f32) -> f32
 }
 
 // The stalled wing's drag.
+#[tactic(auto, unfolding(crate::specs::Coefficients::flat_plate_drag, crate::specs::Coefficients::flat_plate_pressure_drag))]
 fn flat_plate_drag(c: AeroCoefficients, sin_alpha: f32) -> f32
     ensures { result ≡ Coefficients.flat_plate_drag c sin_alpha }
 {
@@ -424,6 +439,7 @@ fn flat_plate_drag(c: AeroCoefficients, sin_alpha: f32) -> f32
 }
 
 // From the quarter chord forward to the centre of gravity, in chords; 0 where lift does not rise with alpha.
+#[tactic(auto, unfolding(crate::specs::Coefficients::static_margin))]
 fn static_margin_chords(c: AeroCoefficients) -> f32
     ensures { result ≡ Coefficients.static_margin c }
 {

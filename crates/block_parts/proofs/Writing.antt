@@ -1,10 +1,9 @@
--- Writing keeps the length, and a loop over the slots writes them one after the other. Assumes nothing.
+-- Writing keeps the length. Assumes nothing.
 use Prim.Native.Nat.{◌*◌, ◌+◌, suc, zero, ℕ}
 use lib.Ieee.{Float}
 use lib.ListN.{length, length-set}
 use mathlib.Core.List.{List}
-use mathlib.Core.Path.{◌∙◌, ◌≡◌, ap, refl, sym}
-use native.Mathlib.Numerals.{add-one}
+use mathlib.Core.Path.{◌∙◌, ◌≡◌, refl}
 use Rattle.mixers.specs.Slots.{at}
 use Rattle.vector.specs.declared.Vec3.{Vec3}
 use Rattle.block_parts.specs.Parts.{put_float, put_floats, put_vec}
@@ -21,10 +20,3 @@ length-put_floats s i xs (suc n) = length-put_float (put_floats s i xs n) (i + 4
 pub length-put_vec : (s : List ℕ) (i : ℕ) (v : Vec3) → length (put_vec s i v) ≡ length s
 unfolding put_vec
 length-put_vec s i v = simp length-put_float
-
--- one slot more
-pub put-slot :
-    (s : List ℕ) (i : ℕ) (xs : List Float) (n : ℕ) (t r : List ℕ) → t ≡ put_floats s i xs n → r ≡ put_float t (i + 4 * n) (at xs n)
-    → r ≡ put_floats s i xs (n + 1)
-unfolding put_floats
-put-slot s i xs n t r was e = e ∙ ap (λ z. put_float z (i + 4 * n) (at xs n)) was ∙ sym (ap (put_floats s i xs) (add-one n))

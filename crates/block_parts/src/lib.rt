@@ -15,6 +15,7 @@ pub const VEC_BYTES: usize = 3 * NUMBER_BYTES;
 pub const SLOTS_BYTES: usize = 8 * NUMBER_BYTES;
 
 // The vector whose three numbers stand at `at`.
+#[tactic(auto, unfolding(crate::specs::Parts::float_at, crate::specs::Parts::vec_from))]
 pub fn read_vec(s: &[u8], at: usize) -> Vec3
     requires { at + Parts.vec_bytes ≤ length s.now }
     ensures { result ≡ Parts.vec_from s.now at }
@@ -34,6 +35,7 @@ pub fn read_floats(s: &[u8], at: usize) -> [f32; 8]
 }
 
 // Writes the vector's three numbers at `at`.
+#[tactic(auto, unfolding(crate::specs::Parts::put_float, crate::specs::Parts::put_vec))]
 pub fn write_vec(s: &mut [u8], at: usize, v: Vec3)
     requires { at + Parts.vec_bytes ≤ length s.old }
     ensures { s.new ≡ Parts.put_vec s.old at v }
@@ -44,6 +46,7 @@ pub fn write_vec(s: &mut [u8], at: usize, v: Vec3)
 }
 
 // Writes the 8 slots' numbers at `at`.
+#[tactic(auto, unfolding(crate::specs::Parts::put_float, crate::specs::Parts::put_floats))]
 pub fn write_floats(s: &mut [u8], at: usize, xs: [f32; 8])
     requires { at + Parts.slots_bytes ≤ length s.old }
     ensures { s.new ≡ Parts.put_floats s.old at xs 8 }

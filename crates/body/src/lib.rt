@@ -51,19 +51,21 @@ pub struct Loads {
 
 impl Wrench {
     // Both together.
+    #[tactic(auto, unfolding(crate::specs::Motion::add_wrench))]
     pub fn add(self, w: Wrench) -> Self
         ensures { result ≡ Motion.add_wrench self w }
     {
         let force = self.force_n;
         let torque = self.torque_nm;
-        let force_n = force.add(w.force_n);
-        let torque_nm = torque.add(w.torque_nm);
+        let force_n = force + w.force_n;
+        let torque_nm = torque + w.torque_nm;
         Wrench { force_n, torque_nm }
     }
 }
 
 impl Body {
     // The body after a step of `h` seconds: its position moves with the new velocity, its attitude with the new rates.
+    #[tactic(auto, unfolding(crate::specs::Motion::next_position, crate::specs::Motion::next_velocity, crate::specs::Motion::step_of))]
     pub fn step(self, mass: MassProperties, loads: Loads, h: f32) -> Self
         ensures { result ≡ Motion.step_of self mass loads h }
     {
@@ -74,8 +76,8 @@ impl Body {
         let force = loads.force_ned_n;
         let inertia = mass.inertia_kgm2;
 
-        let velocity_ned_mps = velocity.add(acceleration(force, mass.mass_kg).scale(h));
-        let position_ned_m = position.add(velocity_ned_mps.scale(h));
+        let velocity_ned_mps = velocity + acceleration(force, mass.mass_kg) * h;
+        let position_ned_m = position + velocity_ned_mps * h;
         let angular_velocity_radps = next_rates(rates, inertia, loads, h);
         Body {
             position_ned_m,
@@ -86,14 +88,16 @@ impl Body {
     }
 
     // Velocity minus wind, on NED axes.
+    #[tactic(auto, unfolding(crate::specs::Motion::air_velocity))]
     pub fn air_relative_velocity_ned_mps(self, wind_ned_mps: Vec3) -> Vec3
         ensures { result ≡ Motion.air_velocity self wind_ned_mps }
     {
         let velocity = self.velocity_ned_mps;
-        velocity.sub(wind_ned_mps)
+        velocity - wind_ned_mps
     }
 
     // The reflection of left and right.
+    #[tactic(auto, unfolding(crate::specs::Reflection::reflect_body))]
     pub fn reflected(self) -> Self
         ensures { result ≡ Reflection.reflect_body self }
     {
@@ -114,32 +118,33 @@ impl Body {
 fn acceleration(force_ned_n: Vec3, mass_kg: f32) -> Vec3
     ensures { result ≡ Motion.acceleration_of force_ned_n mass_kg }
 {
-    force_ned_n
-        .unscale(mass_kg)
-        .add(Vec3::new(0.0, 0.0, GRAVITY))
+    force_ned_n / mass_kg + Vec3::new(0.0, 0.0, GRAVITY)
 }
 
 // torque - (ω cross (I·ω)) - damping.
+#[tactic(auto, unfolding(crate::specs::Motion::net_torque))]
 fn net_torque(rates: Vec3, inertia: Vec3, loads: Loads) -> Vec3
     ensures { result ≡ Motion.net_torque rates inertia loads }
 {
     let torque = loads.torque_nm;
     let damping = loads.damping_nm;
     let momentum = inertia.component_mul(rates);
-    torque.sub(rates.cross(momentum)).sub(damping)
+    torque - rates.cross(momentum) - damping
 }
 
+#[tactic(auto, unfolding(crate::specs::Motion::next_rates))]
 fn next_rates(rates: Vec3, inertia: Vec3, loads: Loads, h: f32) -> Vec3
     ensures { result ≡ Motion.next_rates rates inertia loads h }
 {
     let angular_acceleration = net_torque(rates, inertia, loads).component_div(inertia);
-    rates.add(angular_acceleration.scale(h))
+    rates + angular_acceleration * h
 }
 
 // The rotation is about body axes, so it stands second in the product.
+#[tactic(auto, unfolding(crate::specs::Motion::next_attitude))]
 fn next_attitude(attitude: Quaternion, rates: Vec3, h: f32) -> Quaternion
     ensures { result ≡ Motion.next_attitude attitude rates h }
 {
-    let rotation = Quaternion::from_scaled_axis(rates.scale(h));
+    let rotation = Quaternion::from_scaled_axis(rates * h);
     attitude.times(rotation).renormalize_fast()
 }

@@ -62,6 +62,7 @@ pub struct FixedWingModel {
 }
 
 // AR = b·b/S.
+#[tactic(auto, unfolding(crate::specs::Falloff::aspect_ratio))]
 pub fn aspect_ratio(span_m: f32, wing_area_m2: f32) -> f32
     ensures { result ≡ aspect_ratio span_m wing_area_m2 }
 {
@@ -70,6 +71,7 @@ pub fn aspect_ratio(span_m: f32, wing_area_m2: f32) -> f32
 
 impl ThrustFalloff {
     // What the forward airspeed leaves of a motor's thrust in still air, which is `thrust_share` of `max_thrust_n`.
+    #[tactic(auto, unfolding(crate::specs::Falloff::falloff_share, crate::specs::Falloff::linear_share))]
     pub fn falloff_share(self, max_thrust_n: f32, thrust_share: f32, airspeed_mps: f32) -> f32
         ensures { result ≡ falloff_share self max_thrust_n thrust_share airspeed_mps }
     {
@@ -86,6 +88,7 @@ impl ThrustFalloff {
 }
 
 // The share of a fixed-pitch prop: 1 in still air, and gone at the speed at which its blades screw forward.
+#[tactic(auto, unfolding(crate::specs::Falloff::pitch_speed_share))]
 fn pitch_speed_share(full_mps: f32, thrust_share: f32, airspeed_mps: f32) -> f32
     ensures { result ≡ pitch_speed_share full_mps thrust_share airspeed_mps }
 {

@@ -12,9 +12,6 @@ held : (n : ℕ) → n < row_count → T (in_float binary32 (pos (n * 100)))
 unfolding in_float
 held n l = le→leb (n * 100) 16777216 (omega arith)
 
-pub int_to_float-result : goal.int_to_float-result
-int_to_float-result c = held c.args.row c.requires
-
 pub returns : goal.returns
 unfolding of_bits round
 returns c = height-made c.args.row c.requires

@@ -5,4 +5,4 @@ use Rattle.body.proofs.acceleration.Goals as goal
 
 pub returns : goal.returns
 unfolding acceleration_of of_bits round
-returns c = simp (c.add.ensures, c.new.ensures, c.unscale.ensures)
+returns c = simp (c.add.ensures, c.new.ensures, c.div.ensures)

@@ -1,12 +1,12 @@
 -- `libm::powers::power_of_two` meets its contract: k + 126 is an index of the table, so the machine's sum and cast lose nothing. Assumes nothing.
-use Prim.Native.Nat.{◌*◌, ◌<◌, ℕ}
+use Prim.Native.Nat.{◌<◌, ℕ}
 use lib.Ieee.{Float, nan}
 use lib.IntN.{◌+ℤ◌, nat_abs, pos, ℤ}
 use lib.ListN.{get_or}
 use mathlib.Core.List.{List}
 use mathlib.Core.Path.{◌∙◌, ◌≡◌, ap, subst, sym}
 use mir.Syntax.{w64}
-use mir.Val.{Fits, SFits, of_z, to_z}
+use mir.Val.{SFits, of_z, to_z}
 use mir.ValLaws.{to_z-of_z}
 use native.Mathlib.Omega.{arith}
 use Rattle.libm.proofs.Entries.{Index, entry, index_of}

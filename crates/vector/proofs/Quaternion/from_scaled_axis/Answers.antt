@@ -9,9 +9,9 @@ unfolding from_scaled_axis from_half_axis norm_of of_bits round
 returns-then-squared c =
     simp (
       c.identity.ensures,
-      simp (c.norm_squared-squared.ensures, c.scale-half.ensures) at c.if-squared.true,
+      simp (c.norm_squared-squared.ensures, c.mul-half.ensures) at c.if-squared.true,
       c.norm_squared-squared.ensures,
-      c.scale-half.ensures,
+      c.mul-half.ensures,
     )
 
 pub returns : goal.returns
@@ -20,7 +20,7 @@ returns c =
     simp (
       c.about.ensures,
       c.sqrtf.ensures,
-      simp (c.norm_squared-squared.ensures, c.scale-half.ensures) at c.if-squared.false,
+      simp (c.norm_squared-squared.ensures, c.mul-half.ensures) at c.if-squared.false,
       c.norm_squared-squared.ensures,
-      c.scale-half.ensures,
+      c.mul-half.ensures,
     )

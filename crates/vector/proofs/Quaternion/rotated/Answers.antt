@@ -10,7 +10,7 @@ returns c =
       c.add-2.ensures,
       c.add.ensures,
       c.cross-2.ensures,
-      c.scale.ensures,
-      c.scale-t.ensures,
+      c.mul.ensures,
+      c.mul-t.ensures,
       c.cross.ensures,
     )
