@@ -2,7 +2,8 @@
 // and lift rotors (02, 5).
 #![tactic(auto)]
 
-ghost use Rattle.std.specs.Prelude.{◌≡◌};
+ghost use Rattle.std.specs.Prelude.{Float, ◌≡◌};
+ghost use Rattle.fixed_wing.specs.Falloff.{falloff_share};
 ghost use Rattle.motors.specs.Motor as Motor;
 ghost use Rattle.motors.specs.Reflection as Reflection;
 
@@ -142,6 +143,7 @@ impl Motors {
     }
 
     // Used or not, all 8 slots pull by their running values and scales, less what `falloff` takes at the forward airspeed.
+    #[tactic(auto, unfolding(crate::specs::Motor::wrench_with))]
     pub fn wrench_with(
         self,
         falloff: ThrustFalloff,
@@ -150,28 +152,24 @@ impl Motors {
     ) -> MotorWrench
         ensures { result ≡ Motor.wrench_with self falloff airspeed_mps }
     {
-        let group = self.group;
-        let running = self.running;
-        let thrust_scale = self.thrust_scale;
-        let torques = group.torque_per_thrust_m;
-        let mut thrust_n = 0.0;
-        let mut torque_nm = Vec3::zeros();
-        for i in 0..8 {
-            let one_n = group
-                .layout
-                .motor_thrust_n(thrust_scale[i], running[i], falloff, airspeed_mps, powers);
-            thrust_n += one_n;
-            torque_nm = torque_nm.add(torques[i].scale(one_n));
-        }
-        MotorWrench {
-            thrust_n,
-            torque_nm,
-        }
+        let falls = FalloffAt {
+            falloff,
+            airspeed_mps,
+        };
+        self.wrench_by(falls, powers)
     }
 
-    // The same where nothing falls off. A loop of its own, so that neither group is copied for the other's (docs/DECISIONS.md, 85).
+    // The same where nothing falls off.
+    #[tactic(auto, unfolding(crate::specs::Motor::wrench_without_falloff))]
     pub fn wrench(self, powers: &PowerTable) -> MotorWrench
         ensures { result ≡ Motor.wrench_without_falloff self }
+    {
+        self.wrench_by(NoFalloff, powers)
+    }
+
+    // The same however thrust falls off.
+    fn wrench_by<F: Falls>(self, falls: F, powers: &PowerTable) -> MotorWrench
+        ensures { result ≡ Motor.wrench_by self (F.left falls self.group.layout.max_thrust_n) }
     {
         let group = self.group;
         let running = self.running;
@@ -182,7 +180,7 @@ impl Motors {
         for i in 0..8 {
             let one_n = group
                 .layout
-                .still_thrust_n(thrust_scale[i], running[i], powers);
+                .motor_thrust_n(thrust_scale[i], running[i], falls, powers);
             thrust_n += one_n;
             torque_nm = torque_nm.add(torques[i].scale(one_n));
         }
@@ -190,6 +188,42 @@ impl Motors {
             thrust_n,
             torque_nm,
         }
+    }
+}
+
+// How thrust falls off: what is left of a motor's thrust, which in still air is `share` of `max_thrust_n`.
+trait Falls: Copy {
+    ghost left: { Self → Float → Float → Float };
+
+    fn share_left(self, max_thrust_n: f32, share: f32) -> f32
+        ensures { result ≡ left self max_thrust_n share };
+}
+
+// By a falloff at a forward airspeed.
+#[derive(Clone, Copy)]
+struct FalloffAt {
+    falloff: ThrustFalloff,
+    airspeed_mps: f32,
+}
+
+impl Falls for FalloffAt {
+    ghost left = { λ at max_thrust share. falloff_share at.falloff max_thrust share at.airspeed_mps };
+
+    fn share_left(self, max_thrust_n: f32, share: f32) -> f32 {
+        self.falloff
+            .falloff_share(max_thrust_n, share, self.airspeed_mps)
+    }
+}
+
+// Not at all.
+#[derive(Clone, Copy)]
+struct NoFalloff;
+
+impl Falls for NoFalloff {
+    ghost left = { λ at max_thrust share. Motor.no_falloff share };
+
+    fn share_left(self, _max_thrust_n: f32, _share: f32) -> f32 {
+        1.0
     }
 }
 
@@ -206,28 +240,18 @@ impl MotorLayout {
     }
 
     // thrust_k of module 2, with the slot's thrust scale; the falloff goes by the share before it is scaled.
-    fn motor_thrust_n(
+    fn motor_thrust_n<F: Falls>(
         self,
         scale: f32,
         running: f32,
-        falloff: ThrustFalloff,
-        airspeed_mps: f32,
+        falls: F,
         powers: &PowerTable,
     ) -> f32
-        ensures { result ≡ Motor.thrust_of self (Motor.falloff_at falloff self airspeed_mps) scale running }
+        ensures { result ≡ Motor.thrust_of self (F.left falls self.max_thrust_n) scale running }
     {
         let max_thrust_n = self.max_thrust_n;
         let share = thrust_fraction(running, self.thrust_exponent, powers);
-        scale * max_thrust_n * share * falloff.falloff_share(max_thrust_n, share, airspeed_mps)
-    }
-
-    // The same with a falloff share of 1.
-    fn still_thrust_n(self, scale: f32, running: f32, powers: &PowerTable) -> f32
-        ensures { result ≡ Motor.thrust_of self Motor.no_falloff scale running }
-    {
-        let max_thrust_n = self.max_thrust_n;
-        let share = thrust_fraction(running, self.thrust_exponent, powers);
-        scale * max_thrust_n * share * 1.0
+        scale * max_thrust_n * share * falls.share_left(max_thrust_n, share)
     }
 }
 

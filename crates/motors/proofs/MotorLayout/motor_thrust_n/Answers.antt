@@ -1,8 +1,7 @@
 -- `motors::MotorLayout::motor_thrust_n` meets its contract. Assumes nothing.
-use lib.Ieee.{of_bits}
 use Rattle.motors.specs.Motor.{thrust_of}
 use Rattle.motors.proofs.MotorLayout.motor_thrust_n.Goals as goal
 
 pub returns : goal.returns
-unfolding thrust_of of_bits
-returns c = simp (c.falloff_share.ensures, c.thrust_fraction-share.ensures)
+unfolding thrust_of
+returns g c = simp (c.share_left.ensures, c.thrust_fraction-share.ensures)

@@ -1,24 +1,24 @@
--- `motors::Motors::wrench_with` meets its contract. Assumes nothing.
+-- `motors::Motors::wrench_by` meets its contract. Assumes nothing.
 use lib.Ieee.{of_bits}
 use mathlib.Core.Path.{◌∙◌, ◌≡◌, ap, refl}
 use native.Mathlib.Nat.{le_antisymm}
 use Rattle.mixers.proofs.Slots.{sum_more, vec-sum-more}
 use Rattle.mixers.specs.Slots.{sum_to, vec_at, vec_sum_to}
 use Rattle.vector.specs.Vector.{scale_of}
-use Rattle.motors.specs.Motor.{falloff_at, slot_thrust, slot_torque, wrench_by, wrench_with}
-use Rattle.motors.proofs.Motors.wrench_with.Goals as goal
+use Rattle.motors.specs.Motor.{slot_thrust, slot_torque, wrench_by}
+use Rattle.motors.proofs.Motors.wrench_by.Goals as goal
 
 pub loop-i-init : goal.loop-i-init
 unfolding sum_to vec_sum_to of_bits
-loop-i-init c = (refl, c.zeros-torque_nm.ensures)
+loop-i-init g c = (refl, c.zeros-torque_nm.ensures)
 
 pub loop-i-preserved : goal.loop-i-preserved
 unfolding slot_thrust slot_torque
-loop-i-preserved c =
+loop-i-preserved g c =
     let s = c in
     let a = s.args in
     let i = s.loop-i.i in
-    let left = falloff_at a.falloff a.self.group.layout a.airspeed_mps in
+    let left = g.F.Falls.left a.falls a.self.group.layout.max_thrust_n in
     let one-n = c.motor_thrust_n-one_n in (
       sum_more (slot_thrust a.self left) i s.loop-i.thrust_n one-n.result s.loop-i.invariant.0 one-n.ensures,
       vec-sum-more (slot_torque a.self left) i s.loop-i.torque_nm c.scale.result c.add-torque_nm.result s.loop-i.invariant.1
@@ -27,8 +27,8 @@ loop-i-preserved c =
     )
 
 pub returns : goal.returns
-unfolding wrench_with wrench_by
-returns c =
+unfolding wrench_by
+returns g c =
     let s = c in
     let e : s.loop-i.i ≡ 8 = le_antisymm s.loop-i.auto.i-end c.loop-i-test.false in
     rw (s.loop-i.invariant.0, s.loop-i.invariant.1, e)
