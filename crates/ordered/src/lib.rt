@@ -2,15 +2,8 @@
 // rows that follow one another, `Option::or` takes the first that fails.
 #![tactic(auto)]
 
-ghost use Rattle.std.specs.Prelude.{IfSome, cond, false, ◌+◌, ◌≡◌, ◌≤◌};
+ghost use Rattle.std.specs.Prelude.{IfSome, ◌+◌, ◌≡◌, ◌≤◌};
 ghost use Rattle.std.specs.Option.{option_map};
-
-// Whether both hold: one test more, in a loop over all of them.
-pub fn both(a: bool, b: bool) -> bool
-    ensures { result ≡ cond b a false }
-{
-    if b { a } else { false }
-}
 
 // The number of a row's failed test, counted on from the `count` tests before it.
 pub fn after(count: u32, failed: Option<u32>) -> Option<u32>
