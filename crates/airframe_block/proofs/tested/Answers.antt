@@ -2,12 +2,12 @@
 use Prim.Native.Nat.{ℕ}
 use lib.Dec.{eqb}
 use mathlib.Core.Bool.{Bool}
-use mathlib.Core.Path.{◌∙◌, ◌≡◌, ap, sym}
+use mathlib.Core.Path.{◌∙◌, ap, sym}
 use Rattle.airframe.specs.Acceptance.{lowest_place}
 use Rattle.answers.specs.declared.Refusal.TheVariants.{NumberOutOfRange}
 use Rattle.ordered.proofs.Ordered.{none-eqb, none-zero, some-number}
 use Rattle.ordered.specs.Ordered.{unless_zero}
-use Rattle.airframe_block.specs.Block.{accepted_airframe, bad_row, refused_airframe, tested_block, tested_airframe}
+use Rattle.airframe_block.specs.Block.{accepted_airframe, bad_row, refused_airframe, tested_block}
 use Rattle.airframe_block.proofs.Order.{place-accepted, place-refused}
 use Rattle.airframe_block.proofs.tested.Goals as goal
 
