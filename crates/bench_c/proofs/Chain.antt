@@ -1,7 +1,8 @@
 -- Tick calls of the library, one after another, each fed the array that the last one left: what they tell and leave is what the
 -- definition's calls do, so that demand 3 speaks of calls that were made. Assumes nothing.
+use Rattle.std.specs.Prelude.{Err}
 use Prim.Native.Nat.{◌%◌, ◌*◌, ◌+◌, ◌/◌, ◌<◌, ℕ}
-use borrow.Author.Tests.{eq-eqb, eqb-true, ltb-true}
+use borrow.Author.Tests.{eq-eqb, ltb-true}
 use denote.Floats.{is_true}
 use lib.Ieee.{Float}
 use lib.ListN.{length}
@@ -11,7 +12,7 @@ use mathlib.Core.Path.{◌∙◌, ◌≡◌, ap, refl}
 use native.Mathlib.Omega.{arith}
 use Rattle.airframe.specs.declared.Airframe.{Airframe}
 use Rattle.airframe_block.specs.Block.{read_airframe_of}
-use Rattle.answers.proofs.Numbers.{number-done, number_small, refused-not-done}
+use Rattle.answers.proofs.Numbers.{number_small, refused-not-done}
 use Rattle.answers.specs.Answers.{is_done, number_of, place_of}
 use Rattle.answers.specs.Answers.{Answer}
 use Rattle.answers.specs.declared.Refusal.{Refusal}
@@ -32,13 +33,13 @@ use Rattle.wing.proofs.Passed.{tick-cases}
 use Rattle.wing.specs.Tick.{lift_spun, lifted_of, moved_of, next_of, next_with, refused_of, spun_of, stepped_of, tick_of}
 use Rattle.wing.specs.declared.TickResult.{TickResult}
 use Rattle.bench_c.specs.Library.{ArrayCall, TickOutcome, reply_of, report_numbers, state_after_tick, tested, tick, tick_lengths}
-use Rattle.bench_c.specs.Library.{tick_prepared, ticked_by, ticked_unless, told_in}
+use Rattle.bench_c.specs.Library.{tick_prepared, ticked_by, told_in}
 
 -- ---- what a tick leaves in the array is the state it hands back
 abbrev Left : List Float → TickResult → Type 0
 Left state k = flight_in (state_after_tick state k) ≡ k.flight
 
-refused-left : (state : List Float) (x : Refusal) → Left state (refused_of x (flight_in state))
+refused-left : (state : List Float) (x : Refusal) → Left state (refused_of (Err x) (flight_in state))
 unfolding state_after_tick refused_of
 refused-left state x = rw (refused-not-done x) refl
 
@@ -114,8 +115,8 @@ array-flown a call h r = chain-flown a flight_in tick_in told_in (ArrayCall call
 
 -- with the airframe as a block that is accepted, and as its array
 block-ticks : (block : List ℕ) → is_done (read_airframe_of block).answer ≡ true → TicksWith (read_airframe_of block).airframe (tick block)
-unfolding tick ticked_by ticked_unless
-block-ticks block d state t report l = rw (l, number-done _ (eqb-true _ _ d)) refl
+unfolding tick ticked_by
+block-ticks block d state t report l = rw (l, d) refl
 
 prepared-ticks : (airframe : List Float) → length airframe ≡ airframe_numbers_count → TicksWith (airframe_in airframe) (tick_prepared airframe)
 unfolding tick_prepared

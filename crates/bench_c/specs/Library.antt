@@ -1,6 +1,6 @@
 -- What each call of the library gives back (include/bench.h), on bytes and on arrays of numbers (arrays/specs): one of the bench's
 -- calls, after the lengths of the arrays. An array of another length gets 1, and nothing is written. Definitions only.
-use Rattle.std.specs.Prelude.{Ok, Err, ◌%◌, ◌*◌, ◌+◌, ◌/◌, ℕ, eqb, Float, get_or, length, Bool, ◌&&◌, cond, true, List, [], ◌∷◌, map, ◌≡◌}
+use Rattle.std.specs.Prelude.{Err, ◌%◌, ◌*◌, ◌+◌, ◌/◌, ℕ, eqb, Float, get_or, length, Bool, ◌&&◌, cond, true, List, [], ◌∷◌, map, ◌≡◌}
 use Rattle.std.specs.Float.{nan}
 use Rattle.airframe.specs.Reflection.{AirframeRel, reflect_airframe}
 use Rattle.airframe.specs.declared.Airframe.{Airframe}
@@ -117,14 +117,9 @@ tested state k = record {
 abbrev pub untested : List Float → List Float → TickOutcome
 untested state report = record { reply = wrong_length; state = state; report = report }
 
--- a tick with an airframe that was read, unless reading it was refused
-unfoldable pub ticked_unless : Answer → Airframe → Flight → Tick → TickResult
-ticked_unless (Ok u) a f t = tick_of a f t
-ticked_unless (Err refusal) a f t = refused_of refusal f
-
 -- the airframe of a block that is refused refuses the tick, with the block's own answer
 unfoldable pub ticked_by : AirframeRead → Flight → Tick → TickResult
-ticked_by x f t = ticked_unless x.answer x.airframe f t
+ticked_by x f t = cond (is_done x.answer) (tick_of x.airframe f t) (refused_of x.answer f)
 
 -- whether the lengths are those of a state, a tick and a report
 unfoldable pub tick_lengths : ℕ → ℕ → ℕ → Bool

@@ -194,13 +194,12 @@ fn arrays_fit(state: usize, tick: usize, report: usize) -> bool
 }
 
 // The tick of an airframe that was read.
-#[tactic(auto, unfolding(crate::specs::Library::ticked_by, crate::specs::Library::ticked_unless))]
 fn ticked_by(read: AirframeRead, f: Flight, t: Tick) -> TickResult
     ensures { result ≡ Library.ticked_by read f t }
 {
     match read.answer {
         Ok(()) => lent_tick::tick_by_reference(read.airframe, f, t),
-        Err(refusal) => wing::refused(refusal, f),
+        Err(_) => wing::refused(read.answer, f),
     }
 }
 
@@ -210,7 +209,7 @@ fn ticked_prepared(airframe: &[f32], f: Flight, t: Tick) -> TickResult
     ensures { result ≡ tick_of (airframe_in airframe.now) f t }
 {
     match arrays::refused_place(airframe) {
-        Some(place) => wing::refused(Refusal::NumberOutOfRange(place), f),
+        Some(place) => wing::refused(Err(Refusal::NumberOutOfRange(place)), f),
         None => {
             let tables = Tables::new();
             let constants = arrays::lag_constants_in(airframe);

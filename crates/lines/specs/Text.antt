@@ -1,9 +1,8 @@
 -- The text of the lines, as bytes (01, "Flown by hand"). Definitions only.
-use Rattle.std.specs.Prelude.{ℕ, zero, suc, ◌/◌, ◌%◌, cond, List, [], ◌∷◌, ◌++◌, ◌==◌, nat_lt, to_bits, Float}
+use Rattle.std.specs.Prelude.{Err, ℕ, zero, suc, ◌/◌, ◌%◌, cond, List, [], ◌∷◌, ◌++◌, ◌==◌, nat_lt, to_bits, Float}
 use Rattle.std.specs.Float.{binary32}
-use Rattle.answers.specs.Answers.{number_of, refusal_number, refusal_place}
+use Rattle.answers.specs.Answers.{number_of, place_of}
 use Rattle.answers.specs.Answers.{Answer}
-use Rattle.answers.specs.declared.Refusal.{Refusal}
 use Rattle.answers.specs.declared.Refusal.TheVariants.{WrongLength}
 use Rattle.body.specs.declared.Body.{Body}
 use Rattle.flight.specs.State.{body_of}
@@ -75,15 +74,15 @@ unfoldable pub mirrored_text : ℕ → Answer → Flight → List ℕ
 mirrored_text index answer f = decimal_text index ++ byte_text mark ++ rest_text answer f
 
 -- the line of a refused read: 0, its answer and its place
-unfoldable pub refusal_text : Refusal → List ℕ
-refusal_text refusal =
+unfoldable pub refusal_text : Answer → List ℕ
+refusal_text answer =
     byte_text zero_digit
     ++ byte_text space
-    ++ decimal_text (refusal_number refusal)
+    ++ decimal_text (number_of answer)
     ++ byte_text space
-    ++ decimal_text (refusal_place refusal)
+    ++ decimal_text (place_of answer)
     ++ byte_text newline
 
 -- what follows the lines of the last n bytes: bytes short of a tick are refused
 unfoldable pub end_text : ℕ → List ℕ
-end_text n = cond (n % tick_bytes == 0) [] (refusal_text WrongLength)
+end_text n = cond (n % tick_bytes == 0) [] (refusal_text (Err WrongLength))

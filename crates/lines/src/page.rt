@@ -4,7 +4,7 @@ ghost use Rattle.lines.specs.Text.{byte_text, digits_of, end_text, refusal_text}
 ghost use Rattle.lines.specs.Page.{line_bytes, page_bytes};
 
 use crate::digits;
-use answers::Refusal;
+use answers::{Answer, Refusal};
 use std::marker::Model;
 
 // How many bytes have room on a page.
@@ -85,16 +85,16 @@ impl Page {
 
     // Puts the line of a refused read: 0, its answer and its place.
     #[tactic(auto, unfolding(crate::specs::Text::refusal_text))]
-    pub fn put_refusal(&mut self, refusal: Refusal)
+    pub fn put_refusal(&mut self, answer: Answer)
         requires { length self.old + line_bytes ≤ page_bytes }
-        ensures page { self.new ≡ self.old ++ refusal_text refusal }
+        ensures page { self.new ≡ self.old ++ refusal_text answer }
         ensures within { length self.new ≤ length self.old + line_bytes }
     {
         self.put_byte(b'0');
         self.put_byte(b' ');
-        self.put_decimal(u64::from(refusal.number()));
+        self.put_decimal(u64::from(answers::number(answer)));
         self.put_byte(b' ');
-        self.put_decimal(u64::from(refusal.place()));
+        self.put_decimal(u64::from(answers::place(answer)));
         self.put_byte(b'\n');
     }
 
@@ -106,7 +106,7 @@ impl Page {
         ensures within { length self.new ≤ length self.old + line_bytes }
     {
         if n % trace::TICK_BYTES != 0 {
-            self.put_refusal(Refusal::WrongLength);
+            self.put_refusal(Err(Refusal::WrongLength));
         }
     }
 }

@@ -67,7 +67,7 @@ fn fly<L: Log, R: Read>(rt: &HostRuntime, input: &mut Input<R>) -> Result<(), Tr
         Ok(opened) => fly_input::<L, R>(rt, opened.airframe, opened.flight, input),
         Err(refusal) => {
             let mut page = Page::new();
-            page.put_refusal(refusal);
+            page.put_refusal(Err(refusal));
             print(rt, input, &page)
         }
     }

@@ -110,7 +110,7 @@ fn print(input: &[u8], page: &mut Page)
     let read = airframe_block::read_airframe(block);
     match read.answer {
         Ok(()) => print_flight(read.airframe, rest, page),
-        Err(refusal) => page.put_refusal(refusal),
+        Err(_) => page.put_refusal(read.answer),
     }
 }
 
@@ -126,6 +126,6 @@ fn print_flight(airframe: Airframe, input: &[u8], page: &mut Page)
             lines::fly_ticks(airframe, Flown::start(read.flight), ticks, page);
             page.put_end(ticks.len());
         }
-        Err(refusal) => page.put_refusal(refusal),
+        Err(_) => page.put_refusal(read.answer),
     }
 }

@@ -33,7 +33,7 @@ stays a p t fails = tick-cases After a p.flight t (λ x. refused x) (λ q. absur
     After : TickResult → Type 0
     After k = ◌≡◌ {A = Progress} (record { flight = k.flight; accepted = p.accepted + one_if_done k.report.answer }) p
 
-    refused : (x : Refusal) → After (refused_of x p.flight)
+    refused : (x : Refusal) → After (refused_of (Err x) p.flight)
     refused x = rw (refused-not-done x, add-zero)
 
 stays_all : (a : Airframe) (p : Progress) (ts : List Tick) → ((t : Tick) → Passed a p.flight t → ⊥) → run_from a p ts ≡ p

@@ -1,6 +1,7 @@
 -- The lift rotors in a tick (02, 5). Without lift numbers a tick is the one it was: its loads are those of aerodynamics and forward
 -- thrust alone, it hands the lift rotors' values back as given, and with other accepted ones its answer, its report and all other
 -- numbers are the same. Assumes nothing.
+use Rattle.std.specs.Prelude.{Err}
 use lib.Dec.{eqb}
 use lib.Ieee.{Float}
 use mathlib.Core.Bool.{Bool, false, true}
@@ -105,7 +106,7 @@ module _ (a : Airframe) (p : a.lift_present ≡ false) (xs : List Float) (e : sl
   unfolding next_with stepped_of moved_of surfaces_for spun_of motors_for density_for
   next-too f t = refl
 
-  refused-too : (x : Refusal) (f : Flight) → Hands (refused_of x f) (refused_of x (with_lift_running f xs))
+  refused-too : (x : Refusal) (f : Flight) → Hands (refused_of (Err x) f) (refused_of (Err x) (with_lift_running f xs))
   unfolding refused_of
   refused-too x f = refl
 

@@ -1,6 +1,7 @@
 -- The tick's mirror law, relationally: for airframes, states and ticks that are each other's reflections number for number, the
 -- answers are equal, alpha and thrust the same, beta
 -- the opposite, and the next states each other's reflections. Assumes nothing.
+use Rattle.std.specs.Prelude.{Err}
 use Prim.Native.Nat.{ℕ}
 use lib.Dec.{eqb}
 use lib.Ieee.{Float}
@@ -176,7 +177,7 @@ next-mirror {a} {a'} {f} {f'} {t} {t'} h k w =
     (rw (density-for-is k) (loads-mirror (density_for f) h motors surfaces lifted k.body w.wind))
 
 -- ---- the tests
-refused-mirror : {f f' : Flight} (x : Refusal) → FlightRel f f' → TickedRel (refused_of x f) (refused_of x f')
+refused-mirror : {f f' : Flight} (x : Refusal) → FlightRel f f' → TickedRel (refused_of (Err x) f) (refused_of (Err x) f')
 unfolding refused_of
 refused-mirror x h = record { report = record { answer = refl; alpha = r-same zero; beta = r-zero true false false (pos 0); thrust = r-same zero }; flight = h }
 

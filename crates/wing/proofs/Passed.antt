@@ -1,4 +1,5 @@
 -- A tick is a refusal or, where every test passes, the next state: what holds of each refusal and of such a next state holds of every tick. Assumes nothing.
+use Rattle.std.specs.Prelude.{Err}
 use borrow.Author.Tests.{eqb-true}
 use lib.Dec.{eqb}
 use mathlib.Core.Bool.{true}
@@ -26,7 +27,7 @@ pub record Passed (a : Airframe) (f : Flight) (t : Tick) : Type 0 where
   pub wind : wind_usable t.wind_ned_mps ≡ true
   pub next : is_inside (next_of a f t).flight ≡ true
 
-pub tick-cases : (P : TickResult → Type 0) (a : Airframe) (f : Flight) (t : Tick) → ((x : Refusal) → P (refused_of x f))
+pub tick-cases : (P : TickResult → Type 0) (a : Airframe) (f : Flight) (t : Tick) → ((x : Refusal) → P (refused_of (Err x) f))
     → (Passed a f t → P (next_of a f t)) → P (tick_of a f t)
 unfolding tick_of tick_with accepted_tick unless_departed
 tick-cases P a f t refused next =

@@ -1,6 +1,7 @@
 -- The wind (02, 1): an unusable one is refused, with the state kept and zeros reported; and in every accepted tick the air's
 -- velocity has no component that is a NaN, so that alpha and
 -- beta are numbers. Assumes nothing.
+use Rattle.std.specs.Prelude.{Err}
 use borrow.Author.Tests.{eqb-true}
 use lib.Dec.{T}
 use lib.Ieee.{add, le, round}
@@ -32,16 +33,16 @@ use Rattle.wing.specs.declared.TickResult.{TickResult}
 
 -- ---- an unusable wind: 10, where 6, 7 and 8 have nothing to say
 pub wind-refused : (a : Airframe) (f : Flight) (t : Tick) → refused_place a ≡ 0 → is_inside f ≡ true → inside step_least step_most t.step_s ≡ true
-    → wind_usable t.wind_ned_mps ≡ false → tick_of a f t ≡ refused_of WindUnusable f
+    → wind_usable t.wind_ned_mps ≡ false → tick_of a f t ≡ refused_of (Err WindUnusable) f
 unfolding tick_of tick_with accepted_tick
 wind-refused a f t p s h w = rw (p, s, h, w)
 
 -- and never an accepted tick: the state as given, and zeros
 pub unusable-refused : (a : Airframe) (f : Flight) (t : Tick) → wind_usable t.wind_ned_mps ≡ false
-    → (x : Refusal) × (tick_of a f t ≡ refused_of x f)
+    → (x : Refusal) × (tick_of a f t ≡ refused_of (Err x) f)
 unfolding refused_of
 unusable-refused a f t w =
-    tick-cases (λ (k : TickResult). (x : Refusal) × (k ≡ refused_of x f)) a f t (λ x. (x, refl)) (λ p. absurd (true≢false (sym p.wind ∙ w)))
+    tick-cases (λ (k : TickResult). (x : Refusal) × (k ≡ refused_of (Err x) f)) a f t (λ x. (x, refl)) (λ p. absurd (true≢false (sym p.wind ∙ w)))
 
 -- ---- the air's velocity on body axes, from a state inside the envelope: at most 2 ^ 18 m/s in size, so a number
 pub air-sized : (f : Flight) (wind : Vec3) → is_inside f ≡ true → wind_usable wind ≡ true → VecSized 18 (air_of (body_of f) wind)

@@ -4,7 +4,7 @@ use Rattle.std.specs.Float.Ieee.{neg}
 use Rattle.air.specs.Density.{density_at}
 use Rattle.airframe.specs.Acceptance.{refused_place}
 use Rattle.airframe.specs.declared.Airframe.{Airframe}
-use Rattle.answers.specs.declared.Refusal.{Refusal}
+use Rattle.answers.specs.Answers.{Answer}
 use Rattle.answers.specs.declared.Refusal.TheVariants.{Departure, NumberOutOfRange, StateOutside, StepOutside, WindUnusable}
 use Rattle.answers.specs.Answers.{done}
 use Rattle.body.specs.Motion.{step_of}
@@ -62,15 +62,15 @@ unfoldable pub next_with : Airframe → Flight → Tick → List Float → Loade
 next_with a f t lift_running l = stepped_of a.model f (spun_of a f t).running (moved_of a f t).running lift_running l t.step_s
 
 -- a refusal: the given state again, and a report of zeros
-unfoldable pub refused_of : Refusal → Flight → TickResult
-refused_of refusal f = record {
-  report = record { answer = Err refusal; alpha_rad = zero; beta_rad = zero; thrust_n = zero };
+unfoldable pub refused_of : Answer → Flight → TickResult
+refused_of answer f = record {
+  report = record { answer = answer; alpha_rad = zero; beta_rad = zero; thrust_n = zero };
   flight = f;
 }
 
 -- 9: a departure
 unfoldable pub unless_departed : Flight → TickResult → TickResult
-unless_departed f n = cond (is_inside n.flight) n (refused_of Departure f)
+unless_departed f n = cond (is_inside n.flight) n (refused_of (Err Departure) f)
 
 -- 10: a wind is usable where each component is within ±200 m/s, which a NaN is not (02, 1)
 abbrev pub wind_most : Float
@@ -85,9 +85,9 @@ unfoldable pub accepted_tick : Flight → Tick → TickResult → TickResult
 accepted_tick f t n =
     cond (is_inside f)
     (cond (inside step_least step_most t.step_s)
-    (cond (wind_usable t.wind_ned_mps) (unless_departed f n) (refused_of WindUnusable f))
-    (refused_of StepOutside f))
-    (refused_of StateOutside f)
+    (cond (wind_usable t.wind_ned_mps) (unless_departed f n) (refused_of (Err WindUnusable) f))
+    (refused_of (Err StepOutside) f))
+    (refused_of (Err StateOutside) f)
 
 -- the tick with these running values of the lift rotors and under these loads. 6: a number of the airframe outside its limits; then
 -- 7, 8, 10 and 9
@@ -95,7 +95,7 @@ unfoldable pub tick_with : Airframe → Flight → Tick → List Float → Loade
 tick_with a f t lift_running l =
     cond (eqb (refused_place a) 0)
     (accepted_tick f t (next_with a f t lift_running l))
-    (refused_of (NumberOutOfRange (refused_place a)) f)
+    (refused_of (Err (NumberOutOfRange (refused_place a))) f)
 
 -- the tick's loads in air of a density, and the tick: with its own loads in the air of its starting height
 unfoldable pub loads_in : Airframe → Flight → Tick → Float → Loaded

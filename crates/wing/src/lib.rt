@@ -83,7 +83,7 @@ pub fn tick(a: Airframe, f: Flight, t: Tick) -> TickResult
     ensures { result ≡ TickOf.tick_of a f t }
 {
     match Accepted::of(a) {
-        Err(refusal) => refused(refusal, f),
+        Err(refusal) => refused(Err(refusal), f),
         Ok(accepted) => {
             let tables = Tables::new();
             let lags = begin(a, t.step_s, &tables.powers);
@@ -106,7 +106,7 @@ pub fn tick_accepted(
     if f.is_inside() {
         return tick_inside(a, f, t, lags, tables);
     }
-    refused(Refusal::StateOutside, f)
+    refused(Err(Refusal::StateOutside), f)
 }
 
 // The same from a state inside the envelope: the tests 8, 10 and 9.
@@ -119,9 +119,9 @@ pub fn tick_inside(a: Accepted, f: Flight, t: Tick, lags: LagFactors, tables: &T
         if wind_usable(t.wind_ned_mps) {
             return unless_departed(f, next_with(a.airframe, f, t, lags, tables));
         }
-        return refused(Refusal::WindUnusable, f);
+        return refused(Err(Refusal::WindUnusable), f);
     }
-    refused(Refusal::StepOutside, f)
+    refused(Err(Refusal::StepOutside), f)
 }
 
 // Whether the wind is one to fly in: each component is a number from -200 to 200 m/s (02, 1).
@@ -132,11 +132,11 @@ fn wind_usable(wind_ned_mps: Vec3) -> bool
 }
 
 // A refusal: the state as it was given, and zeros.
-pub fn refused(refusal: Refusal, f: Flight) -> TickResult
-    ensures { result ≡ TickOf.refused_of refusal f }
+pub fn refused(answer: Answer, f: Flight) -> TickResult
+    ensures { result ≡ TickOf.refused_of answer f }
 {
     let report = Report {
-        answer: Err(refusal),
+        answer,
         alpha_rad: 0.0,
         beta_rad: 0.0,
         thrust_n: 0.0,
@@ -152,7 +152,7 @@ fn unless_departed(f: Flight, n: TickResult) -> TickResult
     if g.is_inside() {
         return n;
     }
-    refused(Refusal::Departure, f)
+    refused(Err(Refusal::Departure), f)
 }
 
 // The lag factors of a step.

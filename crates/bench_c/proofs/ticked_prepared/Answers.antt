@@ -1,4 +1,5 @@
 -- `bench_c::ticked_prepared` meets its contract: the refused place that is read off the numbers is the airframe's own. Assumes nothing.
+use Rattle.std.specs.Prelude.{Err}
 use Prim.Native.Nat.{ℕ}
 use Rattle.airframe.specs.Acceptance.{refused_place}
 use Rattle.answers.specs.declared.Refusal.TheVariants.{NumberOutOfRange}
@@ -16,4 +17,4 @@ pub returns-in-Some : goal.returns-in-Some
 unfolding tick_of tick_with
 returns-in-Some c =
     let q = some-number (refused_place (airframe_in c.args.airframe.now)) _ (sym c.refused_place.ensures ∙ c.in-Some.is) in
-    rw (some-eqb _ q.1) (c.refused.ensures ∙ ap (λ (p : ℕ). refused_of (NumberOutOfRange p) c.args.f) (sym q.0))
+    rw (some-eqb _ q.1) (c.refused.ensures ∙ ap (λ (p : ℕ). refused_of (Err (NumberOutOfRange p)) c.args.f) (sym q.0))

@@ -1,4 +1,5 @@
 -- `wing::tick` meets its contract. Assumes nothing.
+use Rattle.std.specs.Prelude.{Err}
 use mathlib.Core.Path.{◌∙◌, ap}
 use Rattle.answers.specs.declared.Refusal.{Refusal}
 use Rattle.ordered.proofs.Ordered.{some-eqb}
@@ -11,4 +12,4 @@ pub returns-in-Err : goal.returns-in-Err
 unfolding tick_of tick_with
 returns-in-Err c =
     let q : RefusedBy c.args.a c.in-Err.refusal = MatchResult-at_err _ _ _ c.in-Err.is c.of.ensures.refused in
-    rw (some-eqb _ q.there) (c.refused.ensures ∙ ap (λ (x : Refusal). refused_of x c.args.f) q.is)
+    rw (some-eqb _ q.there) (c.refused.ensures ∙ ap (λ (x : Refusal). refused_of (Err x) c.args.f) q.is)
