@@ -26,14 +26,15 @@ use vector::Vec3;
 #[derive(Clone, Copy)]
 pub struct Airframe {
     pub model: FixedWingModel,
-    // Whether there is a wash; where not, `wash` is not looked at.
+    // Whether there is a wash; where not, `wash` is not looked at. No `Option`: the numbers of a wash that is not there are kept
+    // (proofs/RoundTrip: `numbers-again`).
     pub wash_present: bool,
     pub wash: PropWash,
     // The motors along body x.
     pub motors: MotorGroup,
     // Each servo slot's share of the surfaces' deflections.
     pub weights: [Vec3; 8],
-    // Whether there are lift numbers (02, 5); where not, `lift` is not looked at.
+    // Whether there are lift numbers (02, 5); where not, `lift` is not looked at, and kept all the same.
     pub lift_present: bool,
     pub lift: LiftRotors,
 }

@@ -132,7 +132,9 @@ pub const LIFT_TIME_CONSTANT: usize = LIFT_FIRST + 4;
 
 const LIFT_DRAG: usize = LIFT_FIRST + 5;
 
-// Of a segment: whether it is there, the index of its first number, how many numbers it has, and the place of the first.
+// Of a segment: whether it is there, the index of its first number, how many numbers it has, and the place of the first. No `Option`: a
+// segment that is not there has its indices all the same. That these are in range is no ghost field, which the definitions that make
+// segments (specs/Numbers) would have to prove.
 #[derive(Clone, Copy)]
 pub struct Segment {
     pub present: bool,
@@ -303,7 +305,7 @@ fn falloff_number(falloff: ThrustFalloff) -> f32
     }
 }
 
-// The falloff of its kind and its number.
+// The falloff of its kind and its number. The kind is a number and no enum: any number is taken (specs/FromNumbers: `falloff_of`).
 pub fn falloff_of(kind: u8, x: f32) -> ThrustFalloff
     ensures { result ≡ FromNumbers.falloff_of kind x }
 {
@@ -380,7 +382,7 @@ fn wash_from(xs: [f32; NUMBERS]) -> PropWash
     }
 }
 
-// The layout of the motors along body x.
+// The layout of the motors along body x. It and the lift rotors' name their own indices.
 pub fn motor_layout_of(xs: [f32; NUMBERS]) -> MotorLayout
     ensures { result ≡ FromNumbers.motor_layout_of xs }
 {

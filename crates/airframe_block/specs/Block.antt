@@ -1,7 +1,8 @@
 -- The airframe block (01, "Blocks", "Airframe"; 02, 5): what its bits and bytes say, and what reading it gives. A block's bytes are a
 -- list of numbers below 256. Definitions only.
 use Prim.Native.Nat as Nat
-use Rattle.std.specs.Prelude.{Ok, Err, Result, ◌%◌, ◌*◌, ◌+◌, ◌/◌, suc, ℕ, eqb, ltb, Float, get_or, length, replicate, set, Bool, cond, false, not, true, List, [], ◌∷◌}
+use Rattle.std.specs.Prelude.{Ok, Err, Result, ◌%◌, ◌*◌, ◌+◌, ◌/◌, suc, ℕ, eqb, ltb, Float}
+use Rattle.std.specs.Prelude.{get_or, length, replicate, set, Bool, cond, false, not, true, List, [], ◌∷◌}
 use Rattle.std.specs.Float.Ieee.{eq}
 use Rattle.airframe.specs.Acceptance.{lowest_place}
 use Rattle.airframe.specs.FromNumbers.{airframe_of, lift_constant, lift_layout_of, motor_constant, motor_layout_of, zero_airframe}

@@ -12,7 +12,8 @@ use airframe::{Airframe, LIFT_TIME_CONSTANT, MOTOR_TIME_CONSTANT, NUMBERS, Segme
 use answers::{Answer, Refusal};
 use mixers::{MOST_ROWS, MixRow, Rows, Slot};
 
-// What reading an airframe block gives: the reply, and the airframe, all zeros where it is refused.
+// What reading an airframe block gives: the reply, and the airframe, all zeros where it is refused. No `Result`, which would have no
+// airframe of zeros then (specs/Block: `refused_airframe`).
 #[derive(Clone, Copy)]
 pub struct AirframeRead {
     pub answer: Answer,
@@ -31,6 +32,7 @@ pub const MOST_BYTES: usize = HEADER_BYTES + block_parts::NUMBER_BYTES * NUMBERS
 #[derive(Clone, Copy)]
 struct Header {
     version: u8,
+    // The falloff's, as its two bits have it: 2 and 3 are refused.
     kind: u8,
     // Whether a wash is present, and whether lift numbers are (02, 5).
     wash: bool,

@@ -105,7 +105,7 @@ fn slots_in(xs: &[f32], at: usize) -> [f32; 8]
     array::from_fn(|k| xs[at + k])
 }
 
-// The state of an array.
+// The state of an array. These functions take a slice that may be longer, as before: an array type would ask more of who lends it.
 pub fn flight_in(xs: &[f32]) -> Flight
     requires { FlightArray.state_numbers_count ≤ length xs.now }
     ensures { result ≡ FlightArray.flight_in xs.now }

@@ -90,7 +90,7 @@ pub extern "C" fn bench_density(height_m: f32) -> f32
     air::density(height_m)
 }
 
-// The reply where an array is of another length.
+// The reply where an array is of another length. Replies are numbers here, and lengths are tested call by call, since C is outside.
 const WRONG_LENGTH: u64 = 1;
 
 // A reply as one number: the answer's in the low four bits, its place above them.

@@ -95,6 +95,7 @@ impl<R: Read> Input<R> {
         ensures { result ≤ length s.old }
     {
         let mut end = 0;
+        // It reads as much as comes, and counts no index.
         while end < s.len() {
             match self.reader.read(&mut s[end..]) {
                 Ok(0) => break,

@@ -92,7 +92,7 @@ impl MotorGroup {
         }
     }
 
-    // The same into a group of lift rotors.
+    // The same into a group of lift rotors. The two differ in the kind of row that counts, which each names.
     pub fn put_lift(self, row: MixRow) -> Self
         ensures { result ≡ Motor.put_lift_row self row }
     {

@@ -48,6 +48,7 @@ pub fn read(line: &[u8]) -> Option<Case> {
     let mut words = ArrayVec::<u32, 192>::new();
     let mut inputs = 0;
     let mut rest = line;
+    // By what is left of the line: a word and a mark differ in length.
     while let Some(first) = rest.first() {
         if *first == b'>' {
             if inputs > 0 {

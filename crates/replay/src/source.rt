@@ -51,6 +51,7 @@ impl<'a, R: Read> Source<'a, R> {
         self.page.copy_within(self.at..self.end, 0);
         self.end -= self.at;
         self.at = 0;
+        // It reads as much as comes, and counts no index.
         while self.end < PAGE_BYTES {
             let more = self.file.read(&mut self.page[self.end..]).unwrap_or(0);
             if more == 0 {

@@ -15,7 +15,8 @@ use answers::{Answer, Refusal};
 use flight::{Flight, Tick};
 use wing::{Accepted, Tables};
 
-// A run's answer, 0 or 1, its end state and how many of its ticks were accepted.
+// A run's answer, 0 or 1, its end state and how many of its ticks were accepted. No `Result`: a refused run hands back its state and
+// counts none (specs/Run: `ended`).
 #[derive(Clone, Copy)]
 pub struct RunResult {
     pub answer: Answer,

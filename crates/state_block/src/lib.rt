@@ -33,7 +33,8 @@ pub const LIFT_AT: usize = SCALES_AT + SLOTS_BYTES;
 
 pub const STATE_BYTES: usize = LIFT_AT + SLOTS_BYTES;
 
-// What reading a state block gives: the reply, and the state, all zeros where it is refused.
+// What reading a state block gives: the reply, and the state, all zeros where it is refused. No `Result`, which would have no state of
+// zeros then (specs/Layout: `refused_state`).
 #[derive(Clone, Copy)]
 pub struct StateRead {
     pub answer: Answer,

@@ -20,7 +20,8 @@ pub const SERVO_COMMANDS_AT: usize = MOTOR_COMMANDS_AT + SLOTS_BYTES;
 
 pub const TICK_BYTES: usize = SERVO_COMMANDS_AT + SLOTS_BYTES;
 
-// What reading a tick block gives: the reply, and the tick, all zeros where it is refused.
+// What reading a tick block gives: the reply, and the tick, all zeros where it is refused. No `Result`, which would have no tick of
+// zeros then (specs/Tick: `read_tick_of`).
 #[derive(Clone, Copy)]
 pub struct TickRead {
     pub answer: Answer,

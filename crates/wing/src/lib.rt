@@ -52,7 +52,8 @@ pub struct Loaded {
     pub thrust_n: f32,
 }
 
-// What a tick reports; alpha, beta and thrust are 0 where it is refused.
+// What a tick reports; alpha, beta and thrust are 0 where it is refused. No `Result`, which would have no zeros then (specs/Tick:
+// `refused_of`).
 #[derive(Clone, Copy)]
 pub struct Report {
     pub answer: Answer,
@@ -68,7 +69,8 @@ pub struct TickResult {
     pub flight: Flight,
 }
 
-// The lag factors of a step, with the bits of that step: they are reused while the step has the same bits.
+// The lag factors of a step, with the bits of that step: they are reused while the step has the same bits. Whose they are is said in
+// clauses: a type that knows it would hold airframe and step, too, and be made anew at each tick.
 #[derive(Clone, Copy)]
 pub struct LagFactors {
     pub step_bits: u32,
