@@ -75,7 +75,7 @@ const TABLE: [f32; ROW_COUNT] = [
 ];
 
 // The table, of which it is known that it is the atmosphere's. It is made once and lent: naming a const array copies it.
-#[derive(Drop)]
+#[derive(Clone, Copy)]
 pub struct DensityTable {
     pub table: [f32; ROW_COUNT],
     pub ghost is_atmosphere: { table ≡ Density.densities },

@@ -5,6 +5,7 @@
 mod numbers;
 
 ghost use Rattle.std.specs.Prelude.{IfSome, ◌<◌, ◌≡◌, ◌+◌, ◌≤◌};
+ghost use Rattle.std.specs.Option.{option_or};
 ghost use Rattle.airframe.specs.Acceptance as Acceptance;
 ghost use Rattle.airframe.specs.Promises as Promises;
 ghost use Rattle.airframe.specs.Numbers as Numbers;
@@ -44,7 +45,8 @@ pub struct Airframe {
 pub struct LagConstants {
     pub motor_s: f32,
     pub servo_s: f32,
-    pub lift_s: Option<f32>,
+    pub lift_present: bool,
+    pub lift_s: f32,
 }
 
 // The least and the largest number of a place.
@@ -132,8 +134,8 @@ impl Airframe {
             torques,
             weights,
             self.lift_present,
+            lift_torque,
         )
-        .or(lift_torque)
     }
 
     // The same of an airframe that is not of a block: it has no rows.
@@ -147,20 +149,17 @@ impl Airframe {
     pub fn lag_constants(self) -> LagConstants
         ensures { result ≡ Promises.lag_constants_of self }
     {
-        let lift_s = if self.lift_present {
-            Some(self.lift.motors.time_constant_s)
-        } else {
-            None
-        };
         LagConstants {
             motor_s: self.motors.time_constant_s,
             servo_s: self.model.servo_time_constant_s,
-            lift_s,
+            lift_present: self.lift_present,
+            lift_s: self.lift.motors.time_constant_s,
         }
     }
 }
 
-// The lowest place out of range of an airframe's parts, in the order of their places, but for the lift rotors' torques, which come last.
+// The lowest place out of range of an airframe's parts, in the order of their places. `lift_torque` is what `lift_torques_outside` says of
+// the lift rotors' torques, which come last.
 pub fn first_refused(
     numbers: &[f32; NUMBERS],
     falloff: ThrustFalloff,
@@ -169,8 +168,10 @@ pub fn first_refused(
     torques: [Vec3; 8],
     weights: [Vec3; 8],
     lift_present: bool,
+    lift_torque: Option<u32>,
 ) -> Option<u32>
-    ensures { result ≡ unless_zero (Acceptance.first_refused numbers.now falloff wash_present rows_fit torques weights lift_present 0) }
+    ensures { result ≡ option_or (unless_zero (Acceptance.first_refused numbers.now falloff wash_present rows_fit torques weights lift_present 0))
+        lift_torque }
 {
     let limits = limits_for(falloff);
     let base = segment_outside(numbers, limits, Segment::base());
@@ -179,7 +180,8 @@ pub fn first_refused(
     let torque = vectors_outside(torques, 100.0, 50);
     let weight = vectors_outside(weights, 101.0, 51);
     let lift = segment_outside(numbers, limits, Segment::lift(lift_present));
-    base.or(wash).or(rows).or(torque).or(weight).or(lift)
+    let parts = base.or(wash).or(rows).or(torque).or(weight).or(lift);
+    parts.or(lift_torque)
 }
 
 // Without lift numbers the lift rotors' torques are not tested.

@@ -105,7 +105,7 @@ fn slots_in(xs: &[f32], at: usize) -> [f32; 8]
     array::from_fn(|k| xs[at + k])
 }
 
-// The state of an array. These functions take a slice that may be longer, as before: an array type would ask more of who lends it.
+// The state of an array. These functions take a slice that may be longer: an array type would ask more of who lends it.
 pub fn flight_in(xs: &[f32]) -> Flight
     requires { FlightArray.state_numbers_count ≤ length xs.now }
     ensures { result ≡ FlightArray.flight_in xs.now }
@@ -334,8 +334,8 @@ pub fn refused_place(xs: &[f32]) -> Option<u32>
         torques,
         weights,
         lift_present,
+        lift_torque,
     )
-    .or(lift_torque)
 }
 
 // What is out of range among the lift rotors' torques, which are read only where they are tested.
@@ -354,15 +354,12 @@ pub fn lag_constants_in(xs: &[f32]) -> LagConstants
     requires { AirframeArray.airframe_numbers_count ≤ length xs.now }
     ensures { result ≡ lag_constants_of (AirframeArray.airframe_in xs.now) }
 {
-    let lift_s = if is_set(xs[LIFT_PRESENT_AT]) {
-        Some(xs[LIFT_CONSTANT_AT])
-    } else {
-        None
-    };
+    let lift_present = is_set(xs[LIFT_PRESENT_AT]);
     LagConstants {
         motor_s: xs[airframe::MOTOR_TIME_CONSTANT],
         servo_s: xs[airframe::SERVO_TIME_CONSTANT],
-        lift_s,
+        lift_present,
+        lift_s: xs[LIFT_CONSTANT_AT],
     }
 }
 

@@ -265,7 +265,7 @@ const TABLE: [f32; POWER_COUNT] = [
 ];
 
 // The table, of which it is known that each entry is its power. It is made once and lent: naming a const array copies it.
-#[derive(Drop)]
+#[derive(Clone, Copy)]
 pub struct PowerTable {
     pub table: [f32; POWER_COUNT],
     pub ghost is_powers: { table ≡ Powers.powers_of_two },

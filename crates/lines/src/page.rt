@@ -10,7 +10,7 @@ use std::marker::Model;
 // How many bytes have room on a page.
 pub const PAGE_BYTES: usize = 65536;
 
-// The bytes written so far, in a buffer of its own.
+// The bytes written so far, in a buffer of its own: the programs take no memory at run time.
 #[derive(Drop)]
 pub struct Page {
     bytes: [u8; PAGE_BYTES],

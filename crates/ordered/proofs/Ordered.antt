@@ -7,7 +7,7 @@ use mathlib.Core.Path.{◌∙◌, ◌≡◌, ap, ap₂, refl, sym}
 use native.Mathlib.Nat.{eq-or-lt_of_le, suc-ne-zero, zero-add}
 use native.Mathlib.Numerals.{add-one}
 use native.Mathlib.Omega.{arith}
-use Rattle.std.specs.Prelude.{Option, Some, None, is_none, is_some}
+use Rattle.std.specs.Prelude.{Option, Some, None, is_some}
 use Rattle.std.specs.Option.{option_map, option_or}
 use Rattle.ordered.specs.Ordered.{after, all_pass, first_fail, or_else, unless_zero}
 
@@ -122,31 +122,6 @@ not-not : (b : Bool) → not (not b) ≡ b
 not-not true = refl
 not-not false = refl
 
-pub not-true : {b : Bool} → not b ≡ true → b ≡ false
-not-true {b} e = sym (not-not b) ∙ ap not e
-
-pub not-false : {b : Bool} → not b ≡ false → b ≡ true
-not-false {b} e = sym (not-not b) ∙ ap not e
-
--- ---- the rows by whether the first number is 0
-pub or-zero : (a b : ℕ) → a ≡ 0 → or_else a b ≡ b
-unfolding or_else
-or-zero a b e = rw e
-
-pub or_some : (a b : ℕ) → (a ≡ 0 → ⊥) → or_else a b ≡ a
-unfolding or_else
-or_some zero b n = absurd (n refl)
-or_some (suc a) b n = rw (eqb-suc-zero a)
-
-pub after-zero : (n f : ℕ) → f ≡ 0 → after n f ≡ 0
-unfolding after
-after-zero n f e = rw e
-
-pub after-some : (n f : ℕ) → (f ≡ 0 → ⊥) → after n f ≡ n + f
-unfolding after
-after-some n zero h = absurd (h refl)
-after-some n (suc f) h = rw (eqb-suc-zero f)
-
 -- ---- the same of numbers as options
 pub or-option : (a b : ℕ) → option_or (unless_zero a) (unless_zero b) ≡ unless_zero (or_else a b)
 unfolding unless_zero or_else
@@ -198,11 +173,6 @@ pub is-some-eqb : (n : ℕ) → is_some (unless_zero n) ≡ not (eqb n 0)
 unfolding unless_zero
 is-some-eqb zero = refl
 is-some-eqb (suc n) = rw (eqb-suc-zero n) refl
-
-pub is-none-eqb : (n : ℕ) → is_none (unless_zero n) ≡ eqb n 0
-unfolding unless_zero
-is-none-eqb zero = refl
-is-none-eqb (suc n) = rw (eqb-suc-zero n) refl
 
 pub none-eqb : (n : ℕ) (o : Option ℕ) (t : Bool) → o ≡ unless_zero n → is_some o ≡ not t → t ≡ eqb n 0
 none-eqb n o t e h = sym (not-not t) ∙ ap not (sym h ∙ ap is_some e ∙ is-some-eqb n) ∙ not-not (eqb n 0)

@@ -5,7 +5,7 @@ ghost use Rattle.lines.specs.Page.{page_bytes};
 use lines::PAGE_BYTES;
 use std::io::Read;
 
-// The bytes from `at` to `end` of the page are read and not yet taken.
+// The bytes from `at` to `end` of the page are read and not yet taken. A buffer of its own: the program takes no memory at run time.
 #[derive(Drop)]
 pub struct Source<'a, R> {
     file: &'a mut R,

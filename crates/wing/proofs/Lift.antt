@@ -10,7 +10,7 @@ use mathlib.Core.Path.{◌∙◌, ◌≡◌, ap, refl}
 use Rattle.airframe.specs.Acceptance.{refused_place}
 use Rattle.airframe.specs.Promises.{lag_constants_of}
 use Rattle.airframe.specs.declared.Airframe.{Airframe}
-use Rattle.answers.specs.declared.Refusal.{Refusal}
+use Rattle.answers.specs.Answers.{Answer}
 use Rattle.answers.specs.declared.Refusal.TheVariants.{Departure, NumberOutOfRange, StateOutside, StepOutside, WindUnusable}
 use Rattle.body.specs.declared.Body.{Body}
 use Rattle.flight.specs.Envelope.{is_inside, outside_of, slots_outside}
@@ -106,7 +106,7 @@ module _ (a : Airframe) (p : a.lift_present ≡ false) (xs : List Float) (e : sl
   unfolding next_with stepped_of moved_of surfaces_for spun_of motors_for density_for
   next-too f t = refl
 
-  refused-too : (x : Refusal) (f : Flight) → Hands (refused_of (Err x) f) (refused_of (Err x) (with_lift_running f xs))
+  refused-too : (x : Answer) (f : Flight) → Hands (refused_of x f) (refused_of x (with_lift_running f xs))
   unfolding refused_of
   refused-too x f = refl
 
@@ -118,10 +118,10 @@ module _ (a : Airframe) (p : a.lift_present ≡ false) (xs : List Float) (e : sl
       (λ u. by-test Hands (inside step_least step_most t.step_s) (inside step_least step_most t.step_s) refl
       (λ v. by-test Hands (wind_usable t.wind_ned_mps) (wind_usable t.wind_ned_mps) refl
       (λ w. by-test Hands (is_inside n.flight) (is_inside n'.flight) (ap (λ (k : TickResult). is_inside k.flight) h ∙ inside_too n.flight q)
-      (λ z. h) (λ z. refused-too Departure f))
-      (λ w. refused-too WindUnusable f))
-      (λ v. refused-too StepOutside f))
-      (λ u. refused-too StateOutside f)
+      (λ z. h) (λ z. refused-too (Err Departure) f))
+      (λ w. refused-too (Err WindUnusable) f))
+      (λ v. refused-too (Err StepOutside) f))
+      (λ u. refused-too (Err StateOutside) f)
 
   pub lift-apart : (f : Flight) (t : Tick) → slots_outside zero one f.lift_motors ≡ 0 → tick_of a (with_lift_running f xs) t ≡ handing xs (tick_of a f t)
   unfolding tick_with next_with stepped_of
@@ -129,4 +129,4 @@ module _ (a : Airframe) (p : a.lift_present ≡ false) (xs : List Float) (e : sl
       rw (tick-unlifted a p (with_lift_running f xs) t, tick-unlifted a p f t)
       (by-test Hands (eqb (refused_place a) 0) (eqb (refused_place a) 0) refl
       (λ u. accepted-too f t (next f t) (next (with_lift_running f xs) t) o o (next-too f t))
-      (λ u. refused-too (NumberOutOfRange (refused_place a)) f))
+      (λ u. refused-too (Err (NumberOutOfRange (refused_place a))) f))

@@ -17,7 +17,7 @@ use Rattle.airframe.proofs.Mirror.{refused-place-is}
 use Rattle.airframe.specs.Acceptance.{refused_place}
 use Rattle.airframe.specs.Reflection.{AirframeRel}
 use Rattle.airframe.specs.declared.Airframe.{Airframe}
-use Rattle.answers.specs.declared.Refusal.{Refusal}
+use Rattle.answers.specs.Answers.{Answer}
 use Rattle.answers.specs.declared.Refusal.TheVariants.{Departure, NumberOutOfRange, StateOutside, StepOutside, WindUnusable}
 use Rattle.body.proofs.Mirror.{add-wrench-mirror, air-velocity-mirror, step-mirror}
 use Rattle.body.specs.Reflection.{BodyRel, WrenchRel}
@@ -177,7 +177,7 @@ next-mirror {a} {a'} {f} {f'} {t} {t'} h k w =
     (rw (density-for-is k) (loads-mirror (density_for f) h motors surfaces lifted k.body w.wind))
 
 -- ---- the tests
-refused-mirror : {f f' : Flight} (x : Refusal) → FlightRel f f' → TickedRel (refused_of (Err x) f) (refused_of (Err x) f')
+refused-mirror : {f f' : Flight} (x : Answer) → FlightRel f f' → TickedRel (refused_of x f) (refused_of x f')
 unfolding refused_of
 refused-mirror x h = record { report = record { answer = refl; alpha = r-same zero; beta = r-zero true false false (pos 0); thrust = r-same zero }; flight = h }
 
@@ -188,7 +188,7 @@ inside_is h = ap (λ (n : ℕ). eqb n 0) (outside-is h)
 unless-departed-mirror : {f f' : Flight} {n n' : TickResult} → FlightRel f f' → TickedRel n n' → TickedRel (unless_departed f n) (unless_departed f' n')
 unfolding unless_departed
 unless-departed-mirror {f} {f'} {n} {n'} h k =
-    by-test TickedRel (is_inside n.flight) (is_inside n'.flight) (inside_is k.flight) (λ t. k) (λ t. refused-mirror Departure h)
+    by-test TickedRel (is_inside n.flight) (is_inside n'.flight) (inside_is k.flight) (λ t. k) (λ t. refused-mirror (Err Departure) h)
 
 wind-usable-is : {w w' : Vec3} → VecRel false w w' → wind_usable w' ≡ wind_usable w
 unfolding wind_usable
@@ -201,13 +201,13 @@ accepted-mirror {f} {f'} {t} {t'} k w next =
     by-test TickedRel (is_inside f) (is_inside f') (inside_is k)
     (λ u. by-test TickedRel (inside step_least step_most t.step_s) (inside step_least step_most t'.step_s) (ap (inside step_least step_most) w.step)
     (λ v. by-test TickedRel (wind_usable t.wind_ned_mps) (wind_usable t'.wind_ned_mps) (wind-usable-is w.wind)
-    (λ x. unless-departed-mirror k next) (λ x. refused-mirror WindUnusable k))
-    (λ v. refused-mirror StepOutside k))
-    (λ u. refused-mirror StateOutside k)
+    (λ x. unless-departed-mirror k next) (λ x. refused-mirror (Err WindUnusable) k))
+    (λ v. refused-mirror (Err StepOutside) k))
+    (λ u. refused-mirror (Err StateOutside) k)
 
 pub tick-mirror : {a a' : Airframe} {f f' : Flight} {t t' : Tick} → AirframeRel a a' → FlightRel f f' → TickRel t t'
     → TickedRel (tick_of a f t) (tick_of a' f' t')
 unfolding tick_of tick_with
 tick-mirror {a} {a'} h k w =
     rw (refused-place-is h) (by-test TickedRel (eqb (refused_place a) 0) (eqb (refused_place a) 0) refl (λ u. accepted-mirror k w (next-mirror h k w))
-    (λ u. refused-mirror (NumberOutOfRange (refused_place a)) k))
+    (λ u. refused-mirror (Err (NumberOutOfRange (refused_place a))) k))

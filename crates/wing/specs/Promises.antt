@@ -1,6 +1,6 @@
 -- What the code's promises name besides the definitions: the lag factors of a step, which the code keeps from tick to tick.
 -- Nothing here needs believing: the ticks' promises are by the definitions of Tick.antt alone.
-use Rattle.std.specs.Prelude.{Float, Option, Some, None, ◌≡◌}
+use Rattle.std.specs.Prelude.{Float, cond, ◌≡◌}
 use Rattle.std.specs.Float.{binary32}
 use Rattle.std.specs.Float.Ieee.{of_bits, to_bits}
 use Rattle.airframe.specs.Acceptance.{refused_place}
@@ -14,9 +14,8 @@ use Rattle.lag.specs.Lag.{factor_of}
 use Rattle.wing.specs.declared.LagFactors.{LagFactors}
 
 -- the lift rotors' lag factor, 0 without lift numbers
-unfoldable pub lift_factor : Option Float → Float → Float
-lift_factor None h = zero
-lift_factor (Some constant) h = factor_of h constant
+unfoldable pub lift_factor : LagConstants → Float → Float
+lift_factor k h = cond k.lift_present (factor_of h k.lift_s) zero
 
 -- begin(h): the lag factors of a step, with its bits
 unfoldable pub lag_factors_from : LagConstants → Float → LagFactors
@@ -24,7 +23,7 @@ lag_factors_from k h = record {
   step_bits = to_bits binary32 h;
   motor = factor_of h k.motor_s;
   servo = factor_of h k.servo_s;
-  lift = lift_factor k.lift_s h;
+  lift = lift_factor k h;
 }
 
 abbrev pub begin_of : Airframe → Float → LagFactors

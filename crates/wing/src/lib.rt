@@ -25,7 +25,7 @@ use tailsitter_model::Wash;
 use vector::Vec3;
 
 // The tables that a tick looks up, made once a tick or once a run.
-#[derive(Drop)]
+#[derive(Clone, Copy)]
 pub struct Tables {
     pub powers: PowerTable,
     pub densities: DensityTable,
@@ -172,17 +172,17 @@ pub fn lag_factors_from(constants: LagConstants, step_s: f32, powers: &PowerTabl
         step_bits: float::to_bits(step_s),
         motor: lag::factor(step_s, constants.motor_s, powers),
         servo: lag::factor(step_s, constants.servo_s, powers),
-        lift: lift_factor(constants.lift_s, step_s, powers),
+        lift: lift_factor(constants, step_s, powers),
     }
 }
 
-fn lift_factor(constant_s: Option<f32>, step_s: f32, powers: &PowerTable) -> f32
-    ensures { result ≡ Promises.lift_factor constant_s step_s }
+fn lift_factor(constants: LagConstants, step_s: f32, powers: &PowerTable) -> f32
+    ensures { result ≡ Promises.lift_factor constants step_s }
 {
-    match constant_s {
-        Some(constant_s) => lag::factor(step_s, constant_s, powers),
-        None => 0.0,
+    if constants.lift_present {
+        return lag::factor(step_s, constants.lift_s, powers);
     }
+    0.0
 }
 
 // The lag factors of a step; `held`, those of the last step, are reused while the step has the same bits.

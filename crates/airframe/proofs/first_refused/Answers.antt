@@ -36,6 +36,8 @@ returns c =
     let p = c in
     let s = c in
     simp (
+      c.or.ensures,
+      c.or-parts.ensures,
       c.or-5.ensures,
       c.or-4.ensures,
       c.or-3.ensures,

@@ -18,9 +18,8 @@ returns c =
     let f = s.before.before in
     let k = f.before.before in
     let xs = k.args.xs.now in
-    let e : c.or.result ≡ unless_zero (tests xs (numbers_in xs)) =
+    let e : c.first_refused.result ≡ unless_zero (tests xs (numbers_in xs)) =
     simp (
-      c.or.ensures,
       last-or,
       c.first_refused.ensures,
       r.lift_torques_outside-lift_torque.ensures,

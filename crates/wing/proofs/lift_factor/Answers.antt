@@ -3,10 +3,10 @@ use lib.Ieee.{of_bits}
 use Rattle.wing.specs.Promises.{lift_factor}
 use Rattle.wing.proofs.lift_factor.Goals as goal
 
-pub returns-in-Some : goal.returns-in-Some
+pub returns-then-constants : goal.returns-then-constants
 unfolding lift_factor
-returns-in-Some c = simp (c.factor.ensures, c.in-Some.is)
+returns-then-constants c = simp (c.factor.ensures, c.if-constants.true)
 
-pub returns-in-None : goal.returns-in-None
+pub returns : goal.returns
 unfolding lift_factor of_bits
-returns-in-None c = simp c.in-None.is
+returns c = simp c.if-constants.false

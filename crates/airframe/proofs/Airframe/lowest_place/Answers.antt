@@ -7,7 +7,6 @@ pub returns : goal.returns
 unfolding lowest_place
 returns c =
     simp (
-      c.or.ensures,
       last-or,
       c.first_refused.ensures,
       c.lift_torques_outside-lift_torque.ensures,
