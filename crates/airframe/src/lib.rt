@@ -41,6 +41,7 @@ pub struct Airframe {
 }
 
 // The constants of the lags: the motors' (place 39), the servos' (34) and, where there are lift numbers, the lift rotors' (56).
+// No `Option` of the last: `lag_constants_of` keeps it where there are no lift numbers, too.
 #[derive(Clone, Copy)]
 pub struct LagConstants {
     pub motor_s: f32,

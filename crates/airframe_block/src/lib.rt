@@ -193,7 +193,7 @@ fn read_row(s: &[u8], i: usize) -> MixRow
     }
 }
 
-// The `count` rows that stand at `start`.
+// The `count` rows that stand at `start`. `count` is a number of the header that was tested there: a type of its own would only wrap it.
 fn read_rows(s: &[u8], start: usize, count: usize) -> Rows
     requires rows_bound { count ≤ most_rows }
     requires bytes_within { start + Block.row_bytes * count ≤ length s.now }

@@ -26,7 +26,8 @@ pub const TICK_NUMBERS: usize = trace::TICK_BYTES / block_parts::NUMBER_BYTES;
 
 pub const REPORT_NUMBERS: usize = 3;
 
-// At which number of its array each part of a state and of a tick begins; a state's position and a tick's step begin it.
+// At which number of its array each part of a state and of a tick begins; a state's position and a tick's step begin it. A caller in C
+// lays the numbers out so, and the parts are therefore found by index.
 const VELOCITY_AT: usize = state_block::VELOCITY_AT / block_parts::NUMBER_BYTES;
 
 const ATTITUDE_AT: usize = state_block::ATTITUDE_AT / block_parts::NUMBER_BYTES;

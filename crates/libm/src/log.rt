@@ -44,7 +44,7 @@ fn joined(m: f32, n: i64) -> f32
     near(m) + n as f32 * 0.6931472
 }
 
-// ln of the positive number with the pattern b. Below the normal range that number is b times 2^-149.
+// ln of the positive number with the pattern b, which the one caller has tested. Below the normal range that number is b times 2^-149.
 fn positive(b: u32) -> f32
     requires above_zero { 0 < b }
     requires finite { b < 0x7f80_0000 }

@@ -31,7 +31,8 @@ fn glyph(d: u64) -> u8
     d as u8 + 55
 }
 
-// Writes as many of the last digits of n in the base as have room.
+// Writes as many of the last digits of n in the base as have room. Not by `Display`: decimal numbers and words of eight hex digits are
+// this one loop, which writes into the page itself.
 pub fn write_digits(room: &mut [u8], n: u64, base: u64)
     requires nonzero { 0 < base }
     requires small { base ≤ 16 }

@@ -25,7 +25,7 @@ pub struct MotorLayout {
     pub thrust_exponent: f32,
 }
 
-// A group of motors: what of it stays as it is in flight.
+// A group of motors: what of it stays as it is in flight. Slots are arrays beside each other, as callers in C have them.
 #[derive(Clone, Copy)]
 pub struct MotorGroup {
     pub layout: MotorLayout,
@@ -182,7 +182,7 @@ impl Motors {
                 .layout
                 .motor_thrust_n(thrust_scale[i], running[i], falls, powers);
             thrust_n += one_n;
-            torque_nm = torque_nm.add(torques[i].scale(one_n));
+            torque_nm = torque_nm + torques[i] * one_n;
         }
         MotorWrench {
             thrust_n,

@@ -49,8 +49,8 @@ impl LiftRotors {
         let pull = self.at(running).wrench(powers);
         let thrust_n = pull.thrust_n;
         let along_discs = Vec3::new(air_mps.x, air_mps.y, 0.0);
-        let drag = along_discs.scale(self.drag_per_thrust_n_per_mps * thrust_n);
-        let force_n = Vec3::new(0.0, 0.0, -thrust_n).sub(drag);
+        let drag = along_discs * (self.drag_per_thrust_n_per_mps * thrust_n);
+        let force_n = Vec3::new(0.0, 0.0, -thrust_n) - drag;
         let torque_nm = pull.torque_nm;
         Wrench { force_n, torque_nm }
     }

@@ -77,7 +77,7 @@ pub fn lift(inputs: &mut Inputs) -> Option<Answers> {
     Some(answers)
 }
 
-// The slot of a kind word and an index.
+// The slot of a kind word and an index. The lists may hold any word: one that is no kind counts as a servo.
 fn slot(kind: u32, index: u32) -> Slot {
     let index = (index % 8) as u8;
     match kind {

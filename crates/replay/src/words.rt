@@ -1,4 +1,4 @@
-// Words of eight hex digits.
+// Words of eight hex digits. Not std's parsing, which takes a sign, fewer digits and lower case: none of these is a word here.
 ghost use Rattle.std.specs.Prelude.{◌≡◌, ◌+◌, ◌<◌, ◌≤◌, length};
 ghost use Rattle.replay.specs.Words.{is_digit, digit_of, is_pair, pair_of, is_word, word_of};
 

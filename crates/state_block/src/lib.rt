@@ -73,7 +73,7 @@ fn read_flight(s: &[u8], at: usize, thrust_scale: [f32; 8], lift_motors: [f32; 8
     Flight::of(body, motors, servos, thrust_scale, lift_motors)
 }
 
-// A refused state: the reply, and a state of zeros.
+// A refused state: the reply, and a state of zeros. C's two blocks have a record each, with names of its own.
 fn refused(refusal: Refusal) -> StateRead
     ensures { result ≡ Layout.refused_state refusal }
 {
@@ -163,6 +163,7 @@ fn write_flight(s: &mut [u8], at: usize, f: Flight)
 }
 
 // The state's bytes into `s`, which must have as many as a state block, 180: else the bytes stay as found. The numbers are not tested.
+// What it shares with `trace::write_tick` is in `block_parts`; what is left names the block's own parts.
 pub fn write_state(s: &mut [u8], f: Flight) -> Answer
     ensures s_after { s.new ≡ Layout.written_state s.old f }
     ensures value { result ≡ write_answer Layout.state_bytes s.old }

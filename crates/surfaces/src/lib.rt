@@ -24,7 +24,7 @@ pub struct Factors {
 }
 
 impl Surfaces {
-    // From the rows of an airframe, with all servos at 0.
+    // From the rows of an airframe as a fixed form, with all servos at 0; `Mix::surfaces` is the same from the lent list.
     pub fn new(rows: Rows) -> Self
         ensures { result ≡ Surface.surfaces_of rows }
     {
@@ -50,7 +50,7 @@ impl Surfaces {
     {
         let mut unit = Vec3::zeros();
         for (i, weight) in self.weights.iter().enumerate() {
-            unit = unit.add(weight.scale(self.running[i]));
+            unit = unit + *weight * self.running[i];
         }
         unit.component_mul(max_deflection_rad)
     }
@@ -114,7 +114,7 @@ fn squares_of(factors: [Vec3; 8]) -> Vec3
 {
     let mut sum = Vec3::zeros();
     for f in factors {
-        sum = sum.add(f.component_mul(f));
+        sum = sum + f.component_mul(f);
     }
     sum
 }

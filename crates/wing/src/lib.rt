@@ -332,8 +332,8 @@ fn with_thrust(m: FixedWingModel, pull: motors::MotorWrench, aero: aero::Aero) -
     let force = aero.force_n;
     let torque = aero.torque_nm;
     let thrust_line_nm = Vec3::new(0.0, pull.thrust_n * m.thrust_line_below_cg_m, 0.0);
-    let force_n = force.add(Vec3::new(pull.thrust_n, 0.0, 0.0));
-    let torque_nm = torque.add(pull.torque_nm).add(thrust_line_nm);
+    let force_n = force + Vec3::new(pull.thrust_n, 0.0, 0.0);
+    let torque_nm = torque + pull.torque_nm + thrust_line_nm;
     Wrench { force_n, torque_nm }
 }
 

@@ -21,8 +21,8 @@ loop-i-preserved g c =
     let left = g.F.Falls.left a.falls a.self.group.layout.max_thrust_n in
     let one-n = c.motor_thrust_n-one_n in (
       sum_more (slot_thrust a.self left) i s.loop-i.thrust_n one-n.result s.loop-i.invariant.0 one-n.ensures,
-      vec-sum-more (slot_torque a.self left) i s.loop-i.torque_nm c.scale.result c.add-torque_nm.result s.loop-i.invariant.1
-          (c.scale.ensures ∙ ap (scale_of (vec_at a.self.group.torque_per_thrust_m i)) {y = slot_thrust a.self left i}
+      vec-sum-more (slot_torque a.self left) i s.loop-i.torque_nm c.mul.result c.add-torque_nm.result s.loop-i.invariant.1
+          (c.mul.ensures ∙ ap (scale_of (vec_at a.self.group.torque_per_thrust_m i)) {y = slot_thrust a.self left i}
           one-n.ensures) c.add-torque_nm.ensures,
     )
 

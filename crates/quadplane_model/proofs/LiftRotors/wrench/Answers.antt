@@ -10,7 +10,7 @@ returns c =
     simp (
       t.sub-force_n.ensures,
       t.new.ensures,
-      t.scale-drag.ensures,
+      t.mul-drag.ensures,
       s.new-along_discs.ensures,
       s.wrench-pull.ensures,
       s.at.ensures,

@@ -13,7 +13,7 @@ loop-i-init c = c.zeros-unit.ensures
 pub loop-i-preserved : goal.loop-i-preserved
 unfolding deflection_at
 loop-i-preserved c =
-    vec-sum-more _ c.loop-i.i c.loop-i.unit c.scale.result c.add-unit.result c.loop-i.invariant c.scale.ensures c.add-unit.ensures
+    vec-sum-more _ c.loop-i.i c.loop-i.unit c.mul.result c.add-unit.result c.loop-i.invariant c.mul.ensures c.add-unit.ensures
 
 pub returns : goal.returns
 unfolding deflection_rad
