@@ -185,7 +185,7 @@ pub fn first_refused(
     parts.or(lift_torque)
 }
 
-// Without lift numbers the lift rotors' torques are not tested.
+// Without lift numbers the lift rotors' torques are not tested. Flag and torques, no `Option`: the torques are kept all the same.
 pub fn lift_torques_outside(present: bool, torques: [Vec3; 8]) -> Option<u32>
     ensures { result ≡ unless_zero (Acceptance.lift_torques_outside present torques) }
 {

@@ -143,6 +143,7 @@ pub struct Segment {
     pub place: u32,
 }
 
+// The three segments differ in indices and places, which each says once.
 impl Segment {
     pub fn base() -> Self
         ensures { result ≡ Numbers.base_segment }

@@ -339,7 +339,7 @@ pub fn refused_place(xs: &[f32]) -> Option<u32>
     )
 }
 
-// What is out of range among the lift rotors' torques, which are read only where they are tested.
+// What is out of range among the lift rotors' torques, which are read only where they are tested. Flag and torques, as in `airframe`.
 fn lift_torques_outside(xs: &[f32], present: bool) -> Option<u32>
     requires { AirframeArray.airframe_numbers_count ≤ length xs.now }
     ensures { result ≡ unless_zero (lift_torques_outside present (AirframeArray.vecs_in xs.now AirframeArray.lift_torques_at)) }

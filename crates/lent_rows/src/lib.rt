@@ -80,7 +80,7 @@ pub fn fill_from_slice(rows: &[MixRow], start: Mix) -> Mix
     m
 }
 
-// The same by value: the first `count` rows of an array are lent.
+// The same by value: the first `count` rows of an array are lent. `count` is what `Rows::live` gives, which promises the bound.
 fn fill_from_array(list: [MixRow; MOST_ROWS], count: usize, start: Mix) -> Mix
     requires { count ≤ most_rows }
     ensures { result ≡ mix_from start (take count list) }

@@ -40,7 +40,8 @@ fn say_reason(rt: &HostRuntime, error: io::Error) {
     }
 }
 
-// What keeps the program from going on with the input of that name, and the system's reason.
+// What keeps the program from going on with the input of that name, and the system's reason. The program's name is handed in: it is
+// said once, where a program ends.
 pub fn report(rt: &HostRuntime, program: &[u8], name: &[u8], trouble: Trouble) {
     let (doing, name, error) = match trouble {
         Trouble::Unopened(error) => ("open", name, error),

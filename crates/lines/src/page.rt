@@ -10,7 +10,8 @@ use std::marker::Model;
 // How many bytes have room on a page.
 pub const PAGE_BYTES: usize = 65536;
 
-// The bytes written so far, in a buffer of its own: the programs take no memory at run time.
+// The bytes written so far, in a buffer of its own: the programs take no memory at run time. That a text has room is asked of a caller:
+// it is so of the page as it stands, not of every page.
 #[derive(Drop)]
 pub struct Page {
     bytes: [u8; PAGE_BYTES],

@@ -14,7 +14,7 @@ use vector::Quaternion;
 // How many bytes an attitude has.
 const ATTITUDE_BYTES: usize = 4 * NUMBER_BYTES;
 
-// A state block: at which byte each part begins, the position at 0.
+// A state block, whose layout is fixed for C: at which byte each part begins, the position at 0.
 pub const VELOCITY_AT: usize = VEC_BYTES;
 
 pub const ATTITUDE_AT: usize = VELOCITY_AT + VEC_BYTES;
@@ -73,7 +73,7 @@ fn read_flight(s: &[u8], at: usize, thrust_scale: [f32; 8], lift_motors: [f32; 8
     Flight::of(body, motors, servos, thrust_scale, lift_motors)
 }
 
-// A refused state: the reply, and a state of zeros. C's two blocks have a record each, with names of its own.
+// A refused state: the reply, and a state of zeros. What reading gives has a record for each block, with names of its own.
 fn refused(refusal: Refusal) -> StateRead
     ensures { result ≡ Layout.refused_state refusal }
 {

@@ -11,7 +11,7 @@ use block_parts::{NUMBER_BYTES, SLOTS_BYTES, VEC_BYTES};
 use flight::Tick;
 use vector::Vec3;
 
-// A tick block: at which byte each part begins, the step at 0.
+// A tick block, whose layout is fixed for C: at which byte each part begins, the step at 0.
 pub const WIND_AT: usize = NUMBER_BYTES;
 
 pub const MOTOR_COMMANDS_AT: usize = WIND_AT + VEC_BYTES;
