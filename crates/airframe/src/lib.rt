@@ -160,7 +160,7 @@ impl Airframe {
 }
 
 // The lowest place out of range of an airframe's parts, in the order of their places. `lift_torque` is what `lift_torques_outside` says of
-// the lift rotors' torques, which come last.
+// the lift rotors' torques, which come last. Flags, no `Option`: the numbers of what is not there are handed in all the same.
 pub fn first_refused(
     numbers: &[f32; NUMBERS],
     falloff: ThrustFalloff,

@@ -255,7 +255,8 @@ impl Airframe {
     }
 
     // The airframe of its numbers, the falloff's kind, which segments are there, and what its rows fill: the two groups of motors,
-    // made with these numbers, and the surfaces' weights.
+    // made with these numbers, and the surfaces' weights. Flags, no `Option`: the numbers of a segment that is not there are kept. The
+    // kind may be any number: `falloff_of` takes each.
     pub fn from_numbers(
         xs: [f32; NUMBERS],
         kind: u8,
@@ -346,7 +347,7 @@ fn coefficients_of(xs: [f32; NUMBERS]) -> AeroCoefficients
     }
 }
 
-// The model of the numbers by place and the falloff's kind.
+// The model of the numbers by place and the falloff's kind, which may be any number, as in `falloff_of`.
 fn model_of(xs: [f32; NUMBERS], kind: u8) -> FixedWingModel
     ensures { result ≡ FromNumbers.model_of xs kind }
 {

@@ -1,7 +1,7 @@
 -- How many times ln 2 is in an argument from -87 to 88: what the code asks of that number, an exponent from -126 to 127. Each
 -- operation is monotone, so the ends decide. Assumes nothing.
 use lib.Dec.{T, leb→le, le→leb}
-use lib.Ieee.{Float, add, binary32, fin, is_nan, le, lt, mul, ne, neg, of_bits, round, sub, to_signed}
+use lib.Ieee.{Float, add, binary32, fin, in_float, is_nan, le, lt, mul, ne, neg, of_bits, round, sub, to_signed}
 use lib.Ieee.Bits.{is_false}
 use lib.Ieee.Scale.{finite}
 use lib.IntN.{negsuc, pos, ℤ}
@@ -16,7 +16,7 @@ use Rattle.float.proofs.Tests.{either}
 use Rattle.float.proofs.Truncation.{to_signed-mono}
 use Rattle.float.specs.Interval.{Within}
 use Rattle.float.specs.Notation.{half, zero}
-use Rattle.libm.proofs.Splits.{binary-fits}
+use Rattle.libm.proofs.Splits.{binary-fits, binary-in-float}
 use Rattle.libm.specs.Promises.{Binary, Exponent, ExponentOf}
 use Rattle.libm.specs.Exp.{core, exp_of, highest, log2e, lowest, near_down, near_up, binary_exponent}
 
@@ -66,6 +66,9 @@ exponent-binary (negsuc j) e = record { at_least = le→leb j 148 (omega (arith,
 
 pub exponent-fits : (k : ℤ) → Exponent k → SFits w64 k
 exponent-fits k e = binary-fits k (exponent-binary k e)
+
+pub exponent-in-float : (k : ℤ) → Exponent k → T (in_float binary32 k)
+exponent-in-float k e = binary-in-float k (exponent-binary k e)
 
 pub nearest-up : (x : Float) → Within lowest highest x → le zero x ≡ true → ExponentOf x (to_signed 63 (add binary32 (mul binary32 x log2e) half))
 unfolding binary_exponent near_up of_bits round

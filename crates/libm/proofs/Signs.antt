@@ -2,7 +2,7 @@
 -- what a float is. Assumes nothing.
 use Prim.Native.Nat.{◌%◌, ◌*◌, ◌+◌, ◌-◌, ◌/◌, ◌<◌, ◌^◌, ◌≤◌, suc, zero, ℕ}
 use lib.Dec.{T, eqb, eqb→eq, leb, ltb, ltb→lt, lt→ltb}
-use lib.Ieee.{Float, binary32, down, eq, fin, fits, inf, lt, nan, of_bits, size, to_bits, up}
+use lib.Ieee.{Float, binary32, down, eq, fin, fits, inf, is_nan, lt, nan, of_bits, size, to_bits, up}
 use lib.Ieee.Bits.{of_bits-to_bits}
 use lib.Ieee.Digits.{size-le}
 use lib.Ieee.Fits.{and_l, and_r, down_pos, kept-lt}
@@ -28,6 +28,12 @@ size-pos : (m : ℕ) (e : ℤ) → 0 < suc m * up e * 1
 size-pos m e = mul-pos (mul-pos (zero-lt-suc m) (up_pos e)) (zero-lt-suc 0)
 
 -- ---- above zero
+
+pub above_no_nan : (x : Float) → lt (of_bits binary32 0) x ≡ true → T (not (is_nan x))
+unfolding lt of_bits is_nan
+above_no_nan nan h = subst T (sym h) tt
+above_no_nan (inf s) h = tt
+above_no_nan (fin s m e) h = tt
 
 zero-not-above : lt (of_bits binary32 0) (of_bits binary32 0) ≡ false
 unfolding lt of_bits

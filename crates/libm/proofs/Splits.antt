@@ -4,7 +4,7 @@ use Prim.Native.Nat.{◌%◌, ◌*◌, ◌+◌, ◌-◌, ◌/◌, ◌<◌, ◌^�
 use lib.Arith.{le→nltb}
 use lib.Count.{count_trailing_zeros}
 use lib.Dec.{T, leb, leb→le, le→leb, ltb, lt→ltb, nleb→lt, nltb→le, ltb→lt}
-use lib.Ieee.{Float, binary32, down, fin, fits, inf, is_nan, le, lt, minus, nan, odd, of_bits, of_int, round, size, to_bits, up}
+use lib.Ieee.{Float, binary32, down, fin, fits, in_float, inf, is_nan, le, lt, minus, nan, odd, of_bits, of_int, round, size, to_bits, up}
 use lib.Ieee.Bits.{of_bits-to_bits}
 use lib.Ieee.Digits.{back, odd_val, size-lt, size_reaches}
 use lib.Ieee.Fits.{down_pos, odd-fits, of_int-fits}
@@ -29,7 +29,13 @@ use Rattle.libm.proofs.RootValues.{subnormal}
 use Rattle.libm.specs.Promises.{Binary, SplitOf}
 use Rattle.libm.specs.Log.{exponent_of, least, ln_of, ln_of_parts, mantissa_of, shift}
 
--- ---- an exponent from -149 to 128 as the machine holds it
+-- ---- an exponent from -149 to 128 as a float holds it
+pub binary-in-float : (n : ℤ) → Binary n → T (in_float binary32 n)
+unfolding in_float
+binary-in-float (pos n) e = le→leb n (2 ^ 24) (omega (arith, leb→le n 128 e.at_most))
+binary-in-float (negsuc j) e = lt→ltb j (2 ^ 24) (omega (arith, leb→le j 148 e.at_least))
+
+-- and as the machine holds it
 pub binary-fits : (n : ℤ) → Binary n → SFits w64 n
 binary-fits (pos n) e = record { sfits = omega (arith, leb→le n 128 e.at_most) }
 binary-fits (negsuc j) e = record { sfits = omega (arith, leb→le j 148 e.at_least) }

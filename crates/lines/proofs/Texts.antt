@@ -1,9 +1,11 @@
--- Digits may be written from the last to the first. Assumes nothing.
+-- Digits may be written from the last to the first, and the two cases of what follows the last lines. Assumes nothing.
 use Rattle.std.proofs.Common.{◌≡◌, ℕ, zero, suc, ◌+◌, ◌/◌, ◌%◌, ◌<◌, Bool, true, false, cond, ltb, List, [], ◌∷◌, ◌++◌, length, sym, refl, ap, ◌∙◌, set, drop, add-one}
-use Rattle.std.proofs.Common.{append_assoc, length-append}
+use Rattle.std.proofs.Common.{append_assoc, length-append, eq-eqb, ne_eqb, Err}
 use Rattle.std.proofs.lemmas.List.{drop-set}
+use Rattle.answers.specs.declared.Refusal.TheVariants.{WrongLength}
 use Rattle.lines.specs.Glyph.{glyph_of}
-use Rattle.lines.specs.Text.{byte_text, digit_count, digits_of}
+use Rattle.lines.specs.Text.{byte_text, digit_count, digits_of, end_text, refusal_text}
+use Rattle.trace.specs.Tick.{tick_bytes}
 
 pub length_digits : (b k n : ℕ) → length (digits_of b k n) ≡ k
 unfolding digits_of
@@ -33,3 +35,12 @@ digit-written b j n room h =
     let left : List ℕ = digits_of b j (n / b) in
     append_assoc left (g ∷ []) (drop (suc j) room)
     ∙ sym (ap (λ (x : List ℕ). left ++ x) (drop-set room j g h ∙ ap (λ (k : ℕ). g ∷ drop k room) (add-one j)))
+
+-- behind whole ticks nothing follows, and behind bytes that make no whole tick their refusal
+pub end_whole : (n : ℕ) → n % tick_bytes ≡ 0 → [] ≡ end_text n
+unfolding end_text
+end_whole n h = sym (ap (λ (b : Bool). cond b [] (refusal_text (Err WrongLength))) (eq-eqb _ _ h))
+
+pub end-cut : (n : ℕ) → (n % tick_bytes ≡ 0 → ⊥) → refusal_text (Err WrongLength) ≡ end_text n
+unfolding end_text
+end-cut n h = sym (ap (λ (b : Bool). cond b [] (refusal_text (Err WrongLength))) (ne_eqb _ _ h))

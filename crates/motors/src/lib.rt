@@ -132,7 +132,7 @@ impl MotorGroup {
 }
 
 impl Motors {
-    // A step of the lag of the used motors: a command is held within 0..1, and NaN is 0.
+    // A step of the lag of the used motors: a command is held within 0..1, and NaN is 0. `LiftRotors::spun` says why it has its own.
     pub fn spin(mut self, commands: [f32; 8], factor: f32) -> Self
         ensures { result ≡ Motor.spin_of self commands factor }
     {

@@ -6,4 +6,8 @@ use Rattle.libm.proofs.powers.powers_of_two.Goals as goal
 
 pub invariant_of-result : goal.invariant_of-result
 unfolding list_of list_from
-invariant_of-result c = record { is_powers = sym patterns }
+invariant_of-result c = record { is_powers = cc (sym patterns) }
+
+pub returns : goal.returns
+unfolding list_of list_from
+returns c = sym patterns
