@@ -1,6 +1,8 @@
--- Digits may be written from the last to the first, and the two cases of what follows the last lines. Assumes nothing.
+-- Digits may be written from the last to the first, what is set behind a text, and the two cases of what follows the last lines. Assumes
+-- nothing.
 use Rattle.std.proofs.Common.{◌≡◌, ℕ, zero, suc, ◌+◌, ◌/◌, ◌%◌, ◌<◌, Bool, true, false, cond, ltb, List, [], ◌∷◌, ◌++◌, length, sym, refl, ap, ◌∙◌, set, drop, add-one}
-use Rattle.std.proofs.Common.{append_assoc, length-append, eq-eqb, ne_eqb, Err}
+use Rattle.std.proofs.Common.{append_assoc, length-append, eq-eqb, ne_eqb, Err, ◌≤◌, arith}
+use lib.Seq.{set_comm, sets}
 use Rattle.std.proofs.lemmas.List.{drop-set}
 use Rattle.answers.specs.declared.Refusal.TheVariants.{WrongLength}
 use Rattle.lines.specs.Glyph.{glyph_of}
@@ -35,6 +37,13 @@ digit-written b j n room h =
     let left : List ℕ = digits_of b j (n / b) in
     append_assoc left (g ∷ []) (drop (suc j) room)
     ∙ sym (ap (λ (x : List ℕ). left ++ x) (drop-set room j g h ∙ ap (λ (k : ℕ). g ∷ drop k room) (add-one j)))
+
+-- what is set behind a text may be set before it is written
+pub set-behind : (vs l : List ℕ) (i j a : ℕ) → i + length vs ≤ j → sets (set l j a) i vs ≡ set (sets l i vs) j a
+set-behind [] l i j a h = refl
+set-behind (v ∷ vs) l i j a h =
+    ap (λ (m : List ℕ). sets m (suc i) vs) (set_comm l j i a v (λ e. omega arith))
+    ∙ set-behind vs (set l i v) (suc i) j a (omega arith)
 
 -- behind whole ticks nothing follows, and behind bytes that make no whole tick their refusal
 pub end_whole : (n : ℕ) → n % tick_bytes ≡ 0 → [] ≡ end_text n
